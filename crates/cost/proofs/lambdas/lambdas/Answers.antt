@@ -1,0 +1,4 @@
+use Rattle.cost.proofs.lambdas.lambdas.Needs as need
+
+pub returns : need.returns
+returns c = record { rule = tt; most = tt }

@@ -1,0 +1,4 @@
+use Rattle.cost.proofs.lengths.picture_lengths.Needs as need
+
+pub returns : need.returns
+returns c = tt

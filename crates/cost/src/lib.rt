@@ -1,0 +1,30 @@
+//! What a vector costs: code lengths, lambda, the rate, sums of differences, and the settings that they are taken from.
+mod blocks;
+mod centres;
+mod copying;
+mod lambdas;
+mod lengths;
+mod places;
+mod predicted;
+mod qps;
+mod ranges;
+mod rates;
+mod setting_up;
+mod setups;
+mod shapes;
+mod sums;
+mod vectors;
+
+pub use blocks::Block;
+pub use centres::centre;
+pub use lengths::code_length;
+pub use places::BlockRequest;
+pub use predicted::Predicted;
+pub use predicted::vet_arrays;
+pub use qps::Qp;
+pub use ranges::SearchRange;
+pub use rates::rate;
+pub use setups::Setup;
+pub use shapes::Shape;
+pub use sums::sad;
+pub use vectors::Vector;

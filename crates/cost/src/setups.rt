@@ -1,0 +1,14 @@
+//! What is vetted and copied before vectors are priced.
+use crate::blocks::Block;
+use crate::predicted::Predicted;
+use crate::qps::Qp;
+use crate::ranges::SearchRange;
+
+/// The block, the settings and the predicted vectors; nothing of it is borrowed.
+#[derive(Clone, Copy)]
+pub struct Setup {
+    pub block: Block,
+    pub qp: Qp,
+    pub range: SearchRange,
+    pub predicted: Predicted,
+}

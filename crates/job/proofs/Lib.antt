@@ -1,0 +1,3 @@
+mod Signed16
+mod Rests
+mod Placing
