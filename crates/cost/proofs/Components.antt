@@ -61,6 +61,7 @@ near-all zs i h near k =
 
 -- all vectors
 pub vetted-all : (xs ys : List ℤ) (i : ℕ) → Vetted xs ys i → length xs ≤ i → length xs ≡ length ys → (first (componentRules xs ys) ≡ None) × (AllNear xs × AllNear ys)
-vetted-all xs ys i v h e =
-    (sym (v .left) ∙ ap (λ (l : List ℤ). first (componentRules l (drop i ys))) (drop-all i xs h),
-    (near-all xs i h (λ k lt. v .near k lt .0), near-all ys i (omega arith) (λ k lt. v .near k lt .1)))
+vetted-all xs ys i v h e = (
+  sym (v .left) ∙ ap (λ (l : List ℤ). first (componentRules l (drop i ys))) (drop-all i xs h),
+  (near-all xs i h (λ k lt. v .near k lt .0), near-all ys i (omega arith) (λ k lt. v .near k lt .1)),
+)

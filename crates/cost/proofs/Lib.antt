@@ -1,8 +1,6 @@
-pub mod Table
-pub mod Greatest
-pub mod LengthRule
-pub mod LambdaRule
-pub mod Quarters
-pub mod Totals
-pub mod Copies
-pub mod Components
+mod Components
+mod Copies
+mod Quarters
+mod Strips
+mod Tabled
+mod Totals

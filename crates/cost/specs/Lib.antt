@@ -1,13 +1,7 @@
-pub mod Tables
-pub mod Greatest
-pub mod Lengths
-pub mod Lambdas
-pub mod Settings
-pub mod Rates
+pub mod Ranges
 pub mod Centres
 pub mod Sums
-pub mod Shapes
 pub mod Predicted
-pub mod Places
-pub mod Blocks
 pub mod Setups
+pub mod Distortions
+pub mod Prices

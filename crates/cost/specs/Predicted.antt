@@ -12,9 +12,9 @@ use Rattle.picture.specs.declared.faults.Row.the-variants as rows
 use Rattle.picture.specs.declared.faults.Layer.the-variants as layers
 use Rattle.picture.specs.declared.faults.Fault.{Fault}
 use Rattle.picture.specs.Faults.{Rule, fault, first}
-use Rattle.cost.specs.declared.vectors.Vector.{Vector}
+use Rattle.rate.specs.declared.vectors.Vector.{Vector}
 
--- two arrays, of which one or both have not an entry for each picture
+-- turns away two arrays unless both have an entry for each picture, by the longer length
 abbrev pub arraysRule : ℕ → ℕ → ℕ → Rule
 arraysRule pictures m n =
     record { applies = not (eqb m pictures && eqb n pictures); gives = fault rows.ArrayLength layers.Settings (pos (max m n)) }
@@ -23,7 +23,7 @@ arraysRule pictures m n =
 abbrev pub arraysFault : ℕ → ℕ → ℕ → Option Fault
 arraysFault pictures m n = first (arraysRule pictures m n ∷ [])
 
--- a component that is not from -4,096 to 4,096
+-- turns away a component that is not from -4,096 to 4,096
 abbrev pub componentRule : ℤ → Rule
 componentRule z = record { applies = not (leb (natAbs z) 4096); gives = fault rows.PredictedVector layers.Settings z }
 

@@ -12,13 +12,14 @@ use Rattle.picture.specs.declared.faults.Layer.the-variants as layers
 use Rattle.picture.specs.declared.faults.Fault.{Fault}
 use Rattle.picture.specs.declared.sizes.PictureSize.{PictureSize}
 use Rattle.picture.specs.declared.sizes.ListSize.{ListSize}
-use Rattle.picture.specs.declared.planes.Plane.{Plane}
 use Rattle.picture.specs.Faults.{Rule, fault, first, earlier}
-use Rattle.cost.specs.declared.places.BlockRequest.{BlockRequest}
+use Rattle.picture.specs.Planes.{Grid}
+use Rattle.block.specs.declared.places.BlockRequest.{BlockRequest}
 use Rattle.cost.specs.declared.setups.Setup.{Setup}
-use Rattle.cost.specs.Blocks.{blockFault, BlockIs}
+use Rattle.block.specs.Blocks.{blockFault, BlockIs}
 use Rattle.cost.specs.Predicted.{arraysFault, componentRules, Copied}
-use Rattle.cost.specs.Settings.{qpFault, rangeFault}
+use Rattle.rate.specs.Qps.{qpFault}
+use Rattle.cost.specs.Ranges.{rangeFault}
 
 -- a list whose pictures are not of the current picture's size: its width before its height
 abbrev pub mismatchFault : PictureSize → PictureSize → Option Fault
@@ -38,7 +39,7 @@ setupFault current list q qp range xs ys =
     (first (componentRules xs ys))))))
 
 -- the setup that was asked for
-pub record SetupIs (current : Plane) (list : ListSize) (q : BlockRequest) (qp range : ℤ) (xs ys : List ℤ) (s : Setup) : Type 0 where
+pub record SetupIs (current : Grid) (list : ListSize) (q : BlockRequest) (qp range : ℤ) (xs ys : List ℤ) (s : Setup) : Type 0 where
   pub block : BlockIs current q (s .block)
   pub quantiser : pos (s .qp .value) ≡ qp
   pub reach : pos (s .range .value) ≡ range

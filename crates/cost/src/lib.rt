@@ -1,30 +1,18 @@
-//! What a vector costs: code lengths, lambda, the rate, sums of differences, and the settings that they are taken from.
-mod blocks;
+//! What a vector costs: SAD, the centre of a window, the settings and predicted vectors, and the price of a centre.
 mod centres;
-mod copying;
-mod lambdas;
-mod lengths;
-mod places;
+mod distortions;
 mod predicted;
-mod qps;
+mod prices;
+mod pricing;
 mod ranges;
-mod rates;
 mod setting_up;
 mod setups;
-mod shapes;
 mod sums;
-mod vectors;
 
-pub use blocks::Block;
 pub use centres::centre;
-pub use lengths::code_length;
-pub use places::BlockRequest;
 pub use predicted::Predicted;
 pub use predicted::vet_arrays;
-pub use qps::Qp;
+pub use prices::Price;
 pub use ranges::SearchRange;
-pub use rates::rate;
 pub use setups::Setup;
-pub use shapes::Shape;
 pub use sums::sad;
-pub use vectors::Vector;

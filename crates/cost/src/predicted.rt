@@ -1,12 +1,12 @@
 //! Predicted vectors, one for each picture of a list.
 ghost use mathlib.Core.Path.{_≡_};
 ghost use mathlib.Core.List.{[], _∷_};
-ghost use Prim.Native.Nat.{ℕ, _≤_};
-ghost use lib.IntN.{pos, natAbs};
-ghost use lib.ListN.{length, getD};
+ghost use Prim.Native.Nat.{_≤_};
+ghost use lib.IntN.{natAbs};
+ghost use lib.ListN.{length};
 ghost use Rattle.picture.specs.Faults.{Answers, first};
 ghost use Rattle.cost.specs.Predicted.{arraysFault, componentRule, componentRules, predictedFault, AllNear, Copied, vectorAt};
-use crate::vectors::Vector;
+use rate::Vector;
 use picture::Fault;
 use picture::Layer;
 use picture::ListSize;
@@ -33,17 +33,22 @@ pub fn vet_arrays(pictures: usize, xs: &[i16], ys: &[i16]) -> Result<(), Fault>
     Ok(())
 }
 
+/// Vets a component.
+fn vet_component(z: i16) -> Result<(), Fault>
+    ensures { λ r. ⌜ Answers r (first (componentRule z ∷ [])) (λ _. natAbs z ≤ 4096) ⌝ }
+{
+    if z < -4096 || z > 4096 {
+        return Err(Fault { row: Row::PredictedVector, layer: Layer::Settings, value: z as i64 });
+    }
+    Ok(())
+}
+
 /// Vets the vector (x, y), horizontal before vertical.
 fn vet_vector(x: i16, y: i16) -> Result<(), Fault>
     ensures { λ r. ⌜ Answers r (first (componentRule x ∷ componentRule y ∷ [])) (λ _. (natAbs x ≤ 4096) × (natAbs y ≤ 4096)) ⌝ }
 {
-    if x < -4096 || x > 4096 {
-        return Err(Fault { row: Row::PredictedVector, layer: Layer::Settings, value: x as i64 });
-    }
-    if y < -4096 || y > 4096 {
-        return Err(Fault { row: Row::PredictedVector, layer: Layer::Settings, value: y as i64 });
-    }
-    Ok(())
+    vet_component(x)?;
+    vet_component(y)
 }
 
 /// Vets the vectors of all pictures, in their order.

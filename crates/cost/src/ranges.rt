@@ -2,7 +2,7 @@
 ghost use mathlib.Core.Path.{_≡_};
 ghost use lib.IntN.{pos};
 ghost use Rattle.picture.specs.Faults.{Answers};
-ghost use Rattle.cost.specs.Settings.{Reach, isReach, rangeFault};
+ghost use Rattle.cost.specs.Ranges.{Reach, isReach, rangeFault};
 use picture::Fault;
 use picture::Layer;
 use picture::Row;

@@ -2,12 +2,13 @@
 ghost use mathlib.Core.Path.{_≡_};
 ghost use lib.IntN.{pos};
 ghost use Rattle.picture.specs.Faults.{Answers};
+ghost use Rattle.picture.specs.Planes.{gridOf};
 ghost use Rattle.cost.specs.Setups.{mismatchFault, setupFault, SetupIs};
-use crate::blocks::Block;
-use crate::places::BlockRequest;
+use block::Block;
+use block::BlockRequest;
 use crate::predicted::Predicted;
 use crate::predicted::vet_arrays;
-use crate::qps::Qp;
+use rate::Qp;
 use crate::ranges::SearchRange;
 use crate::setups::Setup;
 use picture::Fault;
@@ -41,7 +42,7 @@ impl Setup {
         xs: &[i16],
         ys: &[i16],
     ) -> Result<Setup, Fault>
-        ensures { λ r. ⌜ Answers r (setupFault (now (current .entry) .size) list request qp range (now (xs .entry)) (now (ys .entry))) (SetupIs (now (current .entry)) list request qp range (now (xs .entry)) (now (ys .entry))) ⌝ }
+        ensures { λ r. ⌜ Answers r (setupFault (now (current .entry) .size) list request qp range (now (xs .entry)) (now (ys .entry))) (SetupIs (gridOf (now (current .entry))) list request qp range (now (xs .entry)) (now (ys .entry))) ⌝ }
     {
         vet_arrays(list.pictures, xs, ys)?;
         let block = Block::new(current, request)?;

@@ -1,7 +1,7 @@
 //! What is vetted and copied before vectors are priced.
-use crate::blocks::Block;
+use block::Block;
 use crate::predicted::Predicted;
-use crate::qps::Qp;
+use rate::Qp;
 use crate::ranges::SearchRange;
 
 /// The block, the settings and the predicted vectors; nothing of it is borrowed.

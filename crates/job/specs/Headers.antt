@@ -20,12 +20,12 @@ Placed b h =
     (h .left ≡ leftIn b) × (h .top ≡ topIn b) × (h .«block_width» ≡ blockWidthIn b) × (h .«block_height» ≡ blockHeightIn b)
 
 -- and for the settings
-abbrev pub Set : List ℕ → Header → Type 0
-Set b h = (h .qp ≡ qpIn b) × (h .range ≡ rangeIn b)
+abbrev pub Configured : List ℕ → Header → Type 0
+Configured b h = (h .qp ≡ qpIn b) × (h .range ≡ rangeIn b)
 
 -- the header is the one that the bytes tell
 abbrev pub Told : List ℕ → Header → Type 0
-Told b h = Counted b h × Placed b h × Set b h
+Told b h = Counted b h × Placed b h × Configured b h
 
 -- the header has the numbers of the head
 abbrev pub HeadedBy : Head → Header → Type 0

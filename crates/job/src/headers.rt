@@ -5,16 +5,16 @@ use picture::ListSize;
 /// The ten numbers as they stand.
 #[derive(Clone, Copy)]
 pub(crate) struct Head {
-    pub width: i16,
-    pub height: i16,
-    pub pictures: i16,
-    pub proposals: i16,
-    pub left: i16,
-    pub top: i16,
-    pub block_width: i16,
-    pub block_height: i16,
-    pub qp: i16,
-    pub range: i16,
+    pub width: i64,
+    pub height: i64,
+    pub pictures: i64,
+    pub proposals: i64,
+    pub left: i64,
+    pub top: i64,
+    pub block_width: i64,
+    pub block_height: i64,
+    pub qp: i64,
+    pub range: i64,
 }
 
 /// The head of a job that is accepted: sizes and counts are vetted, the numbers of the block and the settings are not.
@@ -22,11 +22,11 @@ pub(crate) struct Head {
 pub struct Header {
     pub list: ListSize,
     pub proposals: usize,
-    pub left: i16,
-    pub top: i16,
-    pub block_width: i16,
-    pub block_height: i16,
-    pub qp: i16,
-    pub range: i16,
+    pub left: i64,
+    pub top: i64,
+    pub block_width: i64,
+    pub block_height: i64,
+    pub qp: i64,
+    pub range: i64,
     ghost few: { proposals ≤ 64 },
 }

@@ -5,7 +5,7 @@ ghost use denote.Ref.{now};
 ghost use lib.IntN.{pos};
 ghost use lib.ListN.{getD};
 ghost use Rattle.job.specs.Format.{word};
-ghost use Rattle.job.specs.Headers.{Counted, Placed, Set, Told};
+ghost use Rattle.job.specs.Headers.{Counted, Placed, Configured, Told};
 use crate::headers::Header;
 use crate::reading::read_words;
 
@@ -18,7 +18,7 @@ pub struct Job<'a> {
     pub(crate) ys: [i16; 80],
     ghost counted: { Counted (now bytes) header },
     ghost placed: { Placed (now bytes) header },
-    ghost settings: { Set (now bytes) header },
+    ghost configured: { Configured (now bytes) header },
     ghost across: { (k : ℕ) → k < header .list .pictures + header .proposals → getD xs k (pos 0) ≡ word (now bytes) (10 + k) },
     ghost down: { (k : ℕ) → k < header .list .pictures + header .proposals → getD ys k (pos 0) ≡ word (now bytes) (10 + (header .list .pictures + header .proposals) + k) },
 }

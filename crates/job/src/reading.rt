@@ -15,22 +15,30 @@ pub(crate) fn word_at(bytes: &[u8], k: usize) -> i16
     i16::from_le_bytes([bytes[2 * k], bytes[2 * k + 1]])
 }
 
+/// The same, as the calls that refuse numbers take it.
+fn number_at(bytes: &[u8], k: usize) -> i64
+    requires { ⌜ 2 * k + 1 < length (now bytes) ⌝ }
+    ensures { λ r. ⌜ r ≡ word (now (bytes .entry)) k ⌝ }
+{
+    i64::from(word_at(bytes, k))
+}
+
 /// The ten numbers at the head.
 pub(crate) fn read_head(bytes: &[u8]) -> Head
     requires { ⌜ 20 ≤ length (now bytes) ⌝ }
     ensures { λ r. ⌜ IsHead (now (bytes .entry)) r ⌝ }
 {
     Head {
-        width: word_at(bytes, 0),
-        height: word_at(bytes, 1),
-        pictures: word_at(bytes, 2),
-        proposals: word_at(bytes, 3),
-        left: word_at(bytes, 4),
-        top: word_at(bytes, 5),
-        block_width: word_at(bytes, 6),
-        block_height: word_at(bytes, 7),
-        qp: word_at(bytes, 8),
-        range: word_at(bytes, 9),
+        width: number_at(bytes, 0),
+        height: number_at(bytes, 1),
+        pictures: number_at(bytes, 2),
+        proposals: number_at(bytes, 3),
+        left: number_at(bytes, 4),
+        top: number_at(bytes, 5),
+        block_width: number_at(bytes, 6),
+        block_height: number_at(bytes, 7),
+        qp: number_at(bytes, 8),
+        range: number_at(bytes, 9),
     }
 }
 

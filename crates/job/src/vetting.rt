@@ -37,11 +37,11 @@ fn vet_extent(found: usize) -> Result<(), Fault>
 }
 
 /// Vets the number of proposals.
-fn vet_proposals(proposals: i16) -> Result<usize, Fault>
+fn vet_proposals(proposals: i64) -> Result<usize, Fault>
     ensures { λ r. ⌜ Answers r (proposalsFault proposals) (ProposalsAre proposals) ⌝ }
 {
     if proposals < 0 || proposals > 64 {
-        return Err(Fault { row: Row::ArrayLength, layer: Layer::JobFile, value: i64::from(proposals) });
+        return Err(Fault { row: Row::ArrayLength, layer: Layer::JobFile, value: proposals });
     }
     Ok(proposals as usize)
 }
@@ -61,8 +61,8 @@ fn vet_length(stated: usize, found: usize) -> Result<(), Fault>
 fn vet_head(head: Head) -> Result<Header, Fault>
     ensures { λ r. ⌜ Answers r (headFault (head .width) (head .height) (head .pictures) (head .proposals)) (HeadedBy head) ⌝ }
 {
-    let picture = vet_size(Layer::CurrentPicture, i64::from(head.width), i64::from(head.height))?;
-    let pictures = vet_count(i64::from(head.pictures))?;
+    let picture = vet_size(Layer::CurrentPicture, head.width, head.height)?;
+    let pictures = vet_count(head.pictures)?;
     let proposals = vet_proposals(head.proposals)?;
     Ok(Header {
         list: ListSize { picture, pictures },

@@ -9,8 +9,17 @@ mod vetting;
 mod whole;
 
 pub use faults::Fault;
+pub use faults::FaultDebug;
+pub use faults::FaultEq;
+pub use faults::FaultPartialEq;
 pub use faults::Layer;
+pub use faults::LayerDebug;
+pub use faults::LayerEq;
+pub use faults::LayerPartialEq;
 pub use faults::Row;
+pub use faults::RowDebug;
+pub use faults::RowEq;
+pub use faults::RowPartialEq;
 pub use messages::FaultDisplay;
 pub use pictures::ReferencePictures;
 pub use planes::Plane;

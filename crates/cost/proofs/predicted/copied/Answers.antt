@@ -1,3 +1,4 @@
+-- What is written over the front of an array of zeros.
 use Prim.Native.Nat.{_-_}
 use lib.ListN.{length}
 use Rattle.cost.proofs.Copies.{copied-is}

@@ -1,3 +1,4 @@
+-- One more vector is near, or its fault is the first.
 use lib.IntN.{pos}
 use lib.ListN.{getD}
 use mir.Syntax.{w16}

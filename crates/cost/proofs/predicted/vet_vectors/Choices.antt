@@ -1,3 +1,4 @@
+-- The vectors so far are near.
 use Rattle.cost.proofs.Components.{Vetted}
 use Rattle.cost.proofs.predicted.vet_vectors.Given as given
 

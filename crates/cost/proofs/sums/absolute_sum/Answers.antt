@@ -1,3 +1,4 @@
+-- Each turn adds one summand.
 use Prim.Native.Nat.{_≤_}
 use borrow.Author.Needs.{needs}
 use Rattle.cost.specs.Sums.{gapAt}

@@ -1,3 +1,4 @@
+-- The sum of the places so far, at most 255 each.
 use Prim.Native.Nat.{_*_, _≤_}
 use mathlib.Core.Path.{_≡_}
 use Rattle.cost.specs.Sums.{total, gapAt}

@@ -1,4 +1,0 @@
-use Rattle.cost.proofs.lambdas.lambdas.Needs as need
-
-pub returns : need.returns
-returns c = record { rule = tt; most = tt }

@@ -1,4 +1,0 @@
-use Rattle.cost.proofs.lengths.lengths.Needs as need
-
-pub returns : need.returns
-returns c = tt

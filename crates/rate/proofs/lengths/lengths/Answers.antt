@@ -1,0 +1,5 @@
+-- The test is computed.
+use Rattle.rate.proofs.lengths.lengths.Needs as need
+
+pub returns : need.returns
+returns c = tt
