@@ -9,7 +9,8 @@ use Rattle.std.proofs.shelf.Bits.{mul-le}
 use Rattle.picture.specs.Planes.{Grid}
 use Rattle.picture.proofs.Filled.{part-is}
 use Rattle.cost.specs.Sums.{asked, gapSum}
-use Rattle.cost.specs.Distortions.{gridSample, gridStrip}
+use Rattle.cost.specs.Distortions.{gridStrip}
+use Rattle.picture.specs.Planes.{gridSample}
 
 -- strip s of four ends within the array
 pub strip-end : (s w : ℕ) → s < 4 → w ≤ 16 → s * (4 * w) + 4 * w ≤ 256

@@ -1,10 +1,10 @@
 -- The SAD of a block against a picture, at whole-sample vectors.
-use Prim.Native.Nat.{ℕ, _+_, _*_, _/_, _%_, _≤_}
+use Prim.Native.Nat.{ℕ, _+_, _*_, _/_, _≤_}
 use mathlib.Core.List.{List, map}
 use lib.IntN.{ℤ, pos, _+ℤ_, natAbs}
 use lib.ListN.{take, drop}
 use Rattle.std.specs.Iters.{counting}
-use Rattle.picture.specs.Planes.{Grid}
+use Rattle.picture.specs.Planes.{Grid, gridSample}
 use Rattle.block.specs.declared.blocks.Block.{Block}
 use Rattle.block.specs.Shapes.{shapeWidth, shapeHeight}
 use Rattle.cost.specs.Sums.{total, asked, gapSum}
@@ -13,11 +13,7 @@ use Rattle.cost.specs.Sums.{total, asked, gapSum}
 abbrev pub Near : ℕ → ℤ → Type 0
 Near n z = natAbs z ≤ n
 
--- sample k of rows of w whole samples, row by row, from column x and row y on
-abbrev pub gridSample : Grid → ℤ → ℤ → ℕ → ℕ → ℕ
-gridSample g x y w k = g (x +ℤ pos (k % w)) (y +ℤ pos (k / w))
-
--- four such rows
+-- four rows of w whole samples, from column x and row y on
 unfoldable pub gridStrip : Grid → ℤ → ℤ → ℕ → List ℕ
 gridStrip g x y w = map (gridSample g x y w) (counting 0 (4 * w))
 

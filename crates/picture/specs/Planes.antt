@@ -1,12 +1,9 @@
 -- The whole samples of a plane.
-use Prim.Native.Nat.{ℕ, _+_, _-_, _*_, _/_, _%_, _≤_, min}
-use mathlib.Core.Path.{_≡_}
-use mathlib.Core.List.{List, map}
+use Prim.Native.Nat.{ℕ, _+_, _-_, _*_, _/_, _%_, min}
+use mathlib.Core.List.{List}
 use denote.Ref.{now}
 use lib.IntN.{ℤ, pos, negsuc, _+ℤ_}
 use lib.ListN.{getD}
-use lib.Signed.{_≤ℤ_}
-use Rattle.std.specs.Iters.{counting}
 use Rattle.picture.specs.declared.planes.Plane.{Plane}
 
 -- the whole samples, by column and row, of a picture that goes on without end
@@ -25,3 +22,7 @@ grid width height samples x y = getD samples (nearest height y * width + nearest
 -- the plane's whole samples
 abbrev pub gridOf : Plane → Grid
 gridOf p = grid (p .size .width) (p .size .height) (now (p .samples))
+
+-- sample k of rows of w whole samples, row by row, from column x and row y on
+abbrev pub gridSample : Grid → ℤ → ℤ → ℕ → ℕ → ℕ
+gridSample g x y w k = g (x +ℤ pos (k % w)) (y +ℤ pos (k / w))

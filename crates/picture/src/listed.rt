@@ -7,7 +7,7 @@ use crate::planes::Plane;
 
 impl<'a> ReferencePictures<'a> {
     /// The picture of a number that the list has.
-    pub(crate) fn plane(&self, picture: usize) -> Plane<'a>
+    pub fn plane(&self, picture: usize) -> Plane<'a>
         requires { ⌜ picture < now self .size .pictures ⌝ }
         ensures size { λ r. ⌜ r .size ≡ now (self .entry) .size .picture ⌝ }
         ensures samples { λ r. ⌜ now (r .samples) ≡ pictureOf (now (self .entry)) picture ⌝ }

@@ -6,7 +6,7 @@ use native.Mathlib.Omega.{arith}
 use Rattle.std.proofs.shelf.Signed.{toZ-ofZ}
 use Rattle.picture.specs.Pictures.{wholeOf}
 use Rattle.picture.proofs.Filled.{filled-more}
-use Rattle.cost.specs.Distortions.{gridSample}
+use Rattle.picture.specs.Planes.{gridSample}
 use Rattle.cost.proofs.distortions.strip_at.Needs as need
 
 pub loop-k-again : need.loop-k-again

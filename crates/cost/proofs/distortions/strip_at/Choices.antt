@@ -1,6 +1,6 @@
 use Rattle.picture.specs.Pictures.{wholeOf}
 use Rattle.picture.proofs.Filled.{Filled}
-use Rattle.cost.specs.Distortions.{gridSample}
+use Rattle.picture.specs.Planes.{gridSample}
 use Rattle.cost.proofs.distortions.strip_at.Given as given
 
 abbrev pub Inv-loop-k : given.InvT-loop-k

@@ -1,0 +1,10 @@
+mod Rounding
+mod TapBounds
+mod Strips
+mod Products
+mod Copies
+mod Each
+mod Cells
+mod Listing
+mod Places
+mod Showing

@@ -1,0 +1,10 @@
+pub mod Interpolation
+pub mod Bounds
+pub mod Bytes
+pub mod Lists
+pub mod Drawn
+pub mod Patches
+pub mod Rows
+pub mod Computed
+pub mod Vetting
+pub mod Marked
