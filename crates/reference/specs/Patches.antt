@@ -64,9 +64,6 @@ abbrev pub placed : Patch → ℕ → ℕ → ℕ → ℕ
 placed p place i r = mean (partIn (pairAt place .one) p i r) (partIn (pairAt place .other) p i r)
 
 -- by place of the rectangle, row by row
-abbrev pub partRow : Part → Patch → ℕ → ℕ
-partRow part p k = partIn part p (k % p .width) (k / p .width)
-
 abbrev pub placedRow : Patch → ℕ → ℕ → ℕ
 placedRow p place k = placed p place (k % p .width) (k / p .width)
 
