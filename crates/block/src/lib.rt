@@ -1,4 +1,6 @@
 //! Blocks of the current picture: their shapes, their places, and a copy of their samples.
+#![tactic(auto)]
+
 mod blocks;
 mod copying;
 mod places;

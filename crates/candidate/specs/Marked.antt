@@ -1,7 +1,7 @@
 -- The worked examples in one table: what the definitions give, beside the figure that it is.
 use Rattle.std.specs.Prelude.{◌≡◌, ℕ, zero, suc, List, [], ◌∷◌, ◌++◌, replicate, ℤ, pos, negsuc, ◌+ℤ◌, slice_index, slice_set, unsigned_abs}
 use Prim.Native.String.{String}
-use Rattle.std.specs.List.{AllByRecursion as All}
+use Rattle.std.specs.List.{AllByRecursion}
 use Rattle.picture.specs.Planes.{Grid}
 use Rattle.reference.specs.Interpolation.{quarter}
 use Rattle.measure.specs.Sums.{sad, ssd}
@@ -90,4 +90,4 @@ table = gaps ++ (dents 16 ++ (ones ++ (lengths ++ (lambdas ++ centres))))
 
 -- every row of it holds
 abbrev pub Marked : Type 0
-Marked = All (λ (e : Example). e.found ≡ e.is) table
+Marked = AllByRecursion (λ (e : Example). e.found ≡ e.is) table

@@ -1,4 +1,6 @@
 //! What a candidate costs: its rate part and the costs of the block's strips, over any list and by any measure.
+#![tactic(auto)]
+
 mod candidates;
 mod marked;
 mod prices;

@@ -23,7 +23,7 @@ fn judge<L: ReferenceList, M: Measure>(
 ) -> Trial
     requires near { (unsigned_abs candidate.vector.x ≤ 4400) × (unsigned_abs candidate.vector.y ≤ 4400) }
     requires rated { (rate_part ≡ rate_part_of setup.now candidate) × (rate_part ≤ 3921) }
-    ensures tried { Tried (parts_of setup.now (meaning list.now) (cost measure.now) candidate) bound result }
+    ensures tried { Tried (parts_of setup.now (L.meaning list.now) (M.cost measure.now) candidate) bound result }
     ensures most { result.total ≤ 16650321 }
 {
     let strips = setup.block.shape.height() / 4;
@@ -48,7 +48,7 @@ pub fn try_candidate<L: ReferenceList, M: Measure>(
     candidate: Candidate,
     bound: u32,
 ) -> Option<Trial>
-    ensures { MatchOption result (is_priced setup.now candidate ≡ false) (λ t. (is_priced setup.now candidate ≡ true) × Tried (parts_of setup.now (meaning list.now) (cost measure.now) candidate) bound t) }
+    ensures { MatchOption result (is_priced setup.now candidate ≡ false) (λ t. (is_priced setup.now candidate ≡ true) × Tried (parts_of setup.now (L.meaning list.now) (M.cost measure.now) candidate) bound t) }
 {
     let rate_part = rate_part(setup, candidate)?;
     Some(judge(setup, list, measure, candidate, rate_part, bound))
@@ -61,7 +61,7 @@ pub fn price_candidate<L: ReferenceList, M: Measure>(
     measure: &M,
     candidate: Candidate,
 ) -> Option<Price>
-    ensures value { result ≡ price_of setup.now (meaning list.now) (cost measure.now) candidate }
+    ensures value { result ≡ price_of setup.now (L.meaning list.now) (M.cost measure.now) candidate }
     ensures most { IfSome result (λ p. p.cost ≤ 16650321) }
 {
     let rate_part = rate_part(setup, candidate)?;

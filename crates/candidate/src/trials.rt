@@ -22,7 +22,7 @@ fn position(from: usize, by: i16) -> i16
 /// A strip of the list, `width` samples wide; what follows it in the array is left at 0.
 fn strip_at<L: ReferenceList>(list: &L, picture: usize, x: i16, y: i16, width: usize) -> [u8; 64]
     requires { (unsigned_abs x ≤ 12128) × ((unsigned_abs y ≤ 12128) × (is_strip (4 * width) ≡ true)) }
-    ensures { take (4 * width) result ≡ strip_of (meaning list.now) picture x y width }
+    ensures { take (4 * width) result ≡ strip_of (L.meaning list.now) picture x y width }
 {
     let mut strip = [0u8; 64];
     list.strip(picture, x, y, &mut strip[0..4 * width]);
@@ -41,7 +41,7 @@ fn strip_of(samples: &[u8; 256], width: usize, s: usize) -> &[u8]
 
 /// What a measure answers of two strips, with the law's bound: so that no running total wraps.
 fn priced<M: Measure>(measure: &M, a: &[u8], b: &[u8]) -> u32
-    ensures value { result ≡ asked (cost measure.now) a.now b.now }
+    ensures value { result ≡ asked (M.cost measure.now) a.now b.now }
     ensures most { result ≤ 4161600 }
 {
     measure.price(a, b)
@@ -56,7 +56,7 @@ pub(crate) fn strip_cost<L: ReferenceList, M: Measure>(
     s: usize,
 ) -> u32
     requires { (unsigned_abs candidate.vector.x ≤ 4400) × ((unsigned_abs candidate.vector.y ≤ 4400) × (s < 4)) }
-    ensures value { result ≡ strip_cost (cost measure.now) (meaning list.now) block.now candidate s }
+    ensures value { result ≡ strip_cost (M.cost measure.now) (L.meaning list.now) block.now candidate s }
     ensures most { result ≤ 4161600 }
 {
     let width = block.shape.width();

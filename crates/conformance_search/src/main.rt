@@ -1,4 +1,6 @@
 //! `conformance_search`: compares costs, patterns and full rounds with a table of outside results on standard input, and counts what agrees.
+#![tactic(auto)]
+
 mod patterns;
 mod strips;
 
@@ -7,6 +9,7 @@ use std::alloc::Global;
 use std::io::Read;
 
 /// How many records agreed, and how many did not.
+#[derive(Drop)]
 struct Table {
     agreed: u64,
     differed: u64,

@@ -1,4 +1,6 @@
 //! What a vector costs: SAD, the centre of a window, the settings and predicted vectors, and the price of a centre.
+#![tactic(auto)]
+
 mod centres;
 mod distortions;
 mod predicted;

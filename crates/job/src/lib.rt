@@ -1,4 +1,6 @@
 //! The job format: the bytes of a job to what they mean, or the fault that refuses them.
+#![tactic(auto)]
+
 mod headers;
 mod jobs;
 mod layouts;

@@ -1,4 +1,6 @@
 //! Measures: what it costs to take one strip of samples for another. SAD, SSD and SATD are supplied.
+#![tactic(auto)]
+
 mod fours;
 mod halving;
 mod measures;

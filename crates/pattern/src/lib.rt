@@ -1,4 +1,6 @@
 //! Patterns: ordered lists of offsets that a search tries about a vector.
+#![tactic(auto)]
+
 mod crosses;
 mod diamonds;
 mod offsets;

@@ -1,4 +1,6 @@
 //! Pictures over lent bytes: faults, sizes, vetting, planes and their whole samples.
+#![tactic(auto)]
+
 mod faults;
 mod listed;
 mod messages;

@@ -1,4 +1,6 @@
 //! `price`: the price of the centre of each reference picture's window, for a job read from standard input.
+#![tactic(auto)]
+
 ghost use Rattle.picture.specs.Faults.{Answers};
 ghost use Rattle.price.specs.Openings.{opening_fault, OpenedBy};
 

@@ -1,4 +1,6 @@
 //! `price_vector`: what vectors cost, for a job read from standard input: the centre of each window, or one vector that is named.
+#![tactic(auto)]
+
 ghost use Rattle.picture.specs.Faults.{Answers};
 ghost use Rattle.price_vector.specs.Openings.{opening_fault, OpenedBy};
 
@@ -40,11 +42,7 @@ enum Asked {
 }
 
 fn main(rt: HostRuntime) -> anyhow::Result<()> {
-    let ended = run(&rt);
-    if let Err(error) = &ended {
-        eprintln!(rt; "price_vector: {error}")?;
-    }
-    ended
+    run(&rt)
 }
 
 /// Reads the arguments and then, unless help was asked for, the job.
@@ -137,16 +135,16 @@ fn print_named(
             println!(rt; "{picture} {x} {y} {rate} {sad} {ssd} {satd}")?;
             Ok(())
         }
-        None => Err(unpriced(setup, picture).into()),
+        None => Err(unpriced(setup, picture)),
     }
 }
 
 /// Why a vector in that picture has no price.
-fn unpriced(setup: &Setup, picture: usize) -> &'static str {
+fn unpriced(setup: &Setup, picture: usize) -> anyhow::Error {
     if picture >= setup.predicted.pictures {
-        "the job has no reference picture of that number"
+        anyhow!("the job has no reference picture of that number")
     } else {
-        "a component is more than 261 quarter samples from the picture's predicted vector"
+        anyhow!("a component is more than 261 quarter samples from the picture's predicted vector")
     }
 }
 

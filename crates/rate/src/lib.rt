@@ -1,4 +1,6 @@
 //! What a vector takes to send: code lengths, lambda, the rate of a vector and the rate part of its cost.
+#![tactic(auto)]
+
 mod lambdas;
 mod lengths;
 mod qps;

@@ -1,6 +1,6 @@
 mod Rounding
 mod TapBounds
-mod Strips
+pub mod Strips
 mod Products
 mod Copies
 mod Each

@@ -1,7 +1,7 @@
 -- Every sample is a byte.
 use Rattle.std.specs.Prelude.{◌≡◌, ℕ, zero, suc, ◌+◌, ◌*◌, ◌/◌, ◌<◌, ◌≤◌, Bool, true, false, cond, T, List, [], ◌∷◌, take, drop, ℤ, pos, negsuc, nat_lt, slice_index, refl}
 use Rattle.std.proofs.Common.{sym, subst, lit<, ltb→lt, get_or-drop, arith}
-use Rattle.std.specs.List.{AllByRecursion as All}
+use Rattle.std.specs.List.{AllByRecursion}
 use Rattle.picture.specs.Planes.{Grid, grid, nearest}
 use Rattle.reference.specs.Interpolation.{clip, mean, rounded, rounded_twice, cell, quarter}
 
@@ -17,7 +17,7 @@ bytes_take (suc n) (x ∷ xs) b (suc k) = bytes_take n xs (λ i. b (suc i)) k
 pub bytes_drop : (n : ℕ) (xs : List ℕ) → Bytes xs → Bytes (drop n xs)
 bytes_drop n xs b k = rw (get_or-drop n xs k 0) (b (n + k))
 
-pub bytes_all : (xs : List ℕ) → All (λ v. v < 256) xs → Bytes xs
+pub bytes_all : (xs : List ℕ) → AllByRecursion (λ v. v < 256) xs → Bytes xs
 bytes_all [] a k = lit< tt
 bytes_all (x ∷ xs) a zero = a.0
 bytes_all (x ∷ xs) a (suc k) = bytes_all xs a.1 k

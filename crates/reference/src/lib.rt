@@ -1,4 +1,6 @@
 //! Reference lists: the interface, the computing list with H.264's quarter samples, and the drawn list.
+#![tactic(auto)]
+
 mod computed;
 mod computing;
 mod drawing;

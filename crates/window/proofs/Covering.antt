@@ -1,6 +1,6 @@
 -- A full round has every vector of the window, no other, each once.
 use Rattle.std.proofs.Common.{◌≡◌, ℕ, zero, suc, ◌+◌, ◌-◌, ◌*◌, ◌<◌, ◌≤◌, true, ◌⊎◌, List, ◌∷◌, ◌++◌, map, length, ℤ, pos, ◌+ℤ◌, ◌-ℤ◌, nat_abs, sym, refl, ap, ◌∙◌, subst, inl, inr, add-mul, mul-add, arith, length-append}
-use Rattle.std.specs.List.{range_with_len, flat_map, AllByRecursion as All}
+use Rattle.std.specs.List.{range_with_len, flat_map, AllByRecursion}
 use Rattle.std.proofs.lemmas.List.FromFn.{length-range_with_len}
 use Rattle.std.proofs.ByRecursion.{all-has, all_kept_by, All-map, All-weaker, kept_by_passes}
 use Rattle.std.proofs.lemmas.List.{length-map}
@@ -16,12 +16,12 @@ use Rattle.window.proofs.Members.{In, in_joined, in_map, in_kept, in_counting, h
 use Rattle.window.proofs.Rows.{on_row, on_column, ring_rows, row_first, row_skip, rows_first}
 
 -- no other: all of ring k is at distance k
-ring_on : (k : ℕ) → All (λ o. distance o ≡ k) (ring k)
+ring_on : (k : ℕ) → AllByRecursion (λ o. distance o ≡ k) (ring k)
 unfolding ring
 ring_on k =
     All-weaker (λ o. is_on k o ≡ true) (λ o. distance o ≡ k) (λ o t. eqb-true _ k t) (ring k) (kept_by_passes (is_on k) (grid (span k)))
 
-pub round_near : (far : ℕ) → All (λ o. distance o ≤ far) (round far)
+pub round_near : (far : ℕ) → AllByRecursion (λ o. distance o ≤ far) (round far)
 unfolding round
 round_near far =
     all_joined (λ o. distance o ≤ far) ring 0 (far + 1)
@@ -47,7 +47,7 @@ round_has far o h =
     in_joined ring (distance o) o (range_with_len 0 (far + 1)) (in_counting (distance o) 0 (far + 1) (omega arith) (omega arith)) (ring_has (distance o) o refl)
 
 -- once: by distance, then row, then column
-row_fresh : (k j n : ℕ) → All (λ o. nat_abs (o.y +ℤ pos k) ≡ j) (row_from k j 0 n) × Fresh (row_from k j 0 n)
+row_fresh : (k j n : ℕ) → AllByRecursion (λ o. nat_abs (o.y +ℤ pos k) ≡ j) (row_from k j 0 n) × Fresh (row_from k j 0 n)
 unfolding row_from
 row_fresh k j n = (
   all_kept_by (is_on k) (λ o. nat_abs (o.y +ℤ pos k) ≡ j) _ (all_counted (λ o. nat_abs (o.y +ℤ pos k) ≡ j) (spot_at k j) 0 n (λ i l m. omega (arith, ints))),
@@ -149,7 +149,7 @@ from_centre w r v t =
     let ey : c.y +ℤ (v.y -ℤ c.y) ≡ v.y = omega (arith, ints) in
     subst (λ u. In u (round_of w r)) (same_vector _ _ _ _ ex ey) (in_map (moved c) o (round w.reach) (round_has w.reach o (omega arith)))
 
-pub round_inside : (w : Window) (r : ℕ) → All (λ v. inside w r v ≡ true) (round_of w r)
+pub round_inside : (w : Window) (r : ℕ) → AllByRecursion (λ v. inside w r v ≡ true) (round_of w r)
 round_inside w r =
     All-map (λ v. inside w r v ≡ true) (moved (w.centre r)) (round w.reach)
     (All-weaker (λ o. distance o ≤ w.reach) (λ o. inside w r (moved (w.centre r) o) ≡ true) (moved_inside w r) (round w.reach) (round_near w.reach))

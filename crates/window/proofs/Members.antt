@@ -1,6 +1,6 @@
 -- What a list holds, and that it holds nothing twice.
 use Rattle.std.proofs.Common.{◌≡◌, ℕ, zero, suc, ◌+◌, ◌<◌, ◌≤◌, Bool, true, false, cond, ◌⊎◌, List, [], ◌∷◌, ◌++◌, map, length, get_or, filter, sym, refl, ap, ◌∙◌, subst, inl, inr, ⊎_elim, le_of_suc-le-suc, not-suc-le-zero, arith}
-use Rattle.std.specs.List.{range_with_len, flat_map, ContainsAt as Has, AllByRecursion as All}
+use Rattle.std.specs.List.{range_with_len, flat_map, ContainsAt as Has, AllByRecursion}
 use Rattle.std.proofs.ByRecursion.{All-append, All-get_or, all_kept_by, All-map, All-weaker}
 use Rattle.pattern.specs.Joins.{all_joined}
 
@@ -53,23 +53,23 @@ has_in x (z ∷ xs) (inr h) = let g = has_in x xs h in (suc g.0, omega arith, λ
 -- nothing comes twice
 abbrev pub Fresh : {X : Type 0} → List X → Type 0
 Fresh [] = Unit {0}
-Fresh (x ∷ xs) = All (λ y. x ≡ y → ⊥) xs × Fresh xs
+Fresh (x ∷ xs) = AllByRecursion (λ y. x ≡ y → ⊥) xs × Fresh xs
 
-pub fresh_append : {X : Type 0} (xs ys : List X) → Fresh xs → Fresh ys → All (λ x. All (λ y. x ≡ y → ⊥) ys) xs → Fresh (xs ++ ys)
+pub fresh_append : {X : Type 0} (xs ys : List X) → Fresh xs → Fresh ys → AllByRecursion (λ x. AllByRecursion (λ y. x ≡ y → ⊥) ys) xs → Fresh (xs ++ ys)
 fresh_append [] ys f g h = g
 fresh_append (x ∷ xs) ys f g h =
     (All-append (λ y. x ≡ y → ⊥) xs ys f.0 h.0, fresh_append xs ys f.1 g h.1)
 
 -- parts are apart that are told by a number
-pub fresh_joined : {X : Type 0} (tag : X → ℕ) (f : ℕ → List X) (a n : ℕ) → ((k : ℕ) → a ≤ k → k < a + n → All (λ x. tag x ≡ k) (f k) × Fresh (f k)) → Fresh (flat_map f (range_with_len a n))
+pub fresh_joined : {X : Type 0} (tag : X → ℕ) (f : ℕ → List X) (a n : ℕ) → ((k : ℕ) → a ≤ k → k < a + n → AllByRecursion (λ x. tag x ≡ k) (f k) × Fresh (f k)) → Fresh (flat_map f (range_with_len a n))
 fresh_joined tag f a zero h = tt
 fresh_joined {X} tag f a (suc n) h =
-    let later : All (λ y. a < tag y) (flat_map f (range_with_len (a + 1) n)) =
+    let later : AllByRecursion (λ y. a < tag y) (flat_map f (range_with_len (a + 1) n)) =
     all_joined (λ y. a < tag y) f (a + 1) n
     (λ k l m. All-weaker (λ x. tag x ≡ k) (λ x. a < tag x) (λ x e. omega arith) (f k) (h k (omega arith) (omega arith)).0) in
     fresh_append (f a) (flat_map f (range_with_len (a + 1) n)) (h a (omega arith) (omega arith)).1
     (fresh_joined tag f (a + 1) n (λ k l m. h k (omega arith) (omega arith)))
-    (All-weaker (λ x. tag x ≡ a) (λ x. All (λ y. x ≡ y → ⊥) (flat_map f (range_with_len (a + 1) n)))
+    (All-weaker (λ x. tag x ≡ a) (λ x. AllByRecursion (λ y. x ≡ y → ⊥) (flat_map f (range_with_len (a + 1) n)))
     (λ x e. All-weaker (λ y. a < tag y) (λ y. x ≡ y → ⊥) (λ y l s. omega (arith, ap tag s)) (flat_map f (range_with_len (a + 1) n)) later)
     (f a) (h a (omega arith) (omega arith)).0)
 

@@ -1,6 +1,6 @@
 -- What can be computed is computed; code lengths and lambda follow from their rules.
 use Rattle.std.proofs.Common.{◌≡◌, ℕ, ◌+◌, ◌*◌, ◌/◌, ◌^◌, ◌<◌, ◌≤◌, Bool, true, false, ◌&&◌, T, eqb, List, [], ◌∷◌, ◌++◌, ℤ, pos, negsuc, sym, refl, ap, lit<, lit≤, eqb→eq}
-use Rattle.std.specs.List.{AllByRecursion as All}
+use Rattle.std.specs.List.{AllByRecursion}
 use Rattle.std.proofs.ByRecursion.{All-append}
 use Rattle.reference.specs.Interpolation.{quarter, cell, across, tap, rounded}
 use Rattle.rate.specs.Lengths.{code_length}
@@ -31,7 +31,7 @@ abbrev tests : List Example → Bool
 tests [] = true
 tests (e ∷ es) = same e.found e.is && tests es
 
-tested : (es : List Example) → T (tests es) → All Holds es
+tested : (es : List Example) → T (tests es) → AllByRecursion Holds es
 tested [] t = tt
 tested (e ∷ es) t =
     let p = parted (same e.found e.is) (tests es) t in
@@ -42,14 +42,14 @@ bits : (k log : ℕ) → 2 ^ log ≤ k + 1 → k + 1 < 2 ^ (log + 1) → pos (co
 bits k log low high =
     ap pos (sym (length_is k (2 * log + 1) (record { log = log; is-log = record { low = low; high = high }; is-length = refl })))
 
-in_gaps : All Holds gaps
+in_gaps : AllByRecursion Holds gaps
 unfolding quarter cell across tap rounded
 in_gaps = tested gaps tt
 
-of_lengths : All Holds lengths
+of_lengths : AllByRecursion Holds lengths
 of_lengths = (bits 0 0 (lit≤ tt) (lit< tt), (bits 2 1 (lit≤ tt) (lit< tt), (bits 7 3 (lit≤ tt) (lit< tt), tt)))
 
-of_lambdas : All Holds lambdas
+of_lambdas : AllByRecursion Holds lambdas
 of_lambdas = (
   ap pos (lambda_tested 0 15105 tt),
   (ap pos (lambda_tested 12 60421 tt), (ap pos (lambda_tested 30 483369 tt), (ap (λ l. pos (l * 8 / 65536)) (lambda_tested 30 483369 tt), tt))),
@@ -59,7 +59,7 @@ of_lambdas = (
 abbrev later : List Example
 later = lengths ++ (lambdas ++ centres)
 
-of_later : All Holds later
+of_later : AllByRecursion Holds later
 of_later =
     All-append Holds lengths (lambdas ++ centres) of_lengths (All-append Holds lambdas centres of_lambdas (tested centres tt))
 

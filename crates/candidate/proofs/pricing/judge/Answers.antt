@@ -14,7 +14,7 @@ loop-read-preserved g c =
     let cost = g.M.Measure.cost c.args.measure.now in
     let n = strips_many c.args.setup.now m cost c.args.candidate in
     let is = strip_costs c.args.setup.now m cost c.args.candidate c.loop-read.read (omega (arith, c.height-strips.ensures.value)) in
-    reading_more _ _ _ _ _ _ c.loop-read.invariant (omega (arith, n, c.height-strips.ensures.value)) (omega arith) (c.strip-cost-total.ensures.value ∙ sym is) c.strip-cost-total.ensures.most
+    reading_more _ _ _ _ _ _ c.loop-read.invariant (omega (arith, n, c.height-strips.ensures.value)) (omega arith) (c.strip_cost-total.ensures.value ∙ sym is) c.strip_cost-total.ensures.most
 
 pub returns : goal.returns
 returns g c =

@@ -8,7 +8,7 @@ use Rattle.cost.proofs.centres.centre.Goals as goal
 
 pub returns : goal.returns
 returns c =
-    let q : c.div-euclid.result ≡ centre_of c.args.p =
-    c.div-euclid.ensures ∙ ap (λ (z : ℤ). int_div_euclid z (pos 4)) (omega (arith, ints)) in
-    let f : Floor4 (c.args.p +ℤ pos 2) c.div-euclid.result = floor_is _ _ q in
+    let q : c.div_euclid.result ≡ centre_of c.args.p =
+    c.div_euclid.ensures ∙ ap (λ (z : ℤ). int_div_euclid z (pos 4)) (omega (arith, ints)) in
+    let f : Floor4 (c.args.p +ℤ pos 2) c.div_euclid.result = floor_is _ _ q in
     record { value = omega (arith, ints); floor = (omega (arith, ints), omega (arith, ints)) }

@@ -4,4 +4,4 @@ use Rattle.cost.proofs.Copies.{copied_is}
 use Rattle.cost.proofs.predicted.copied.Goals as goal
 
 pub returns : goal.returns
-returns c = copied_is _ _ (length c.args.zs.now - 0) c.copy-from-slice.ensures.after
+returns c = copied_is _ _ (length c.args.zs.now - 0) c.copy_from_slice.ensures.after

@@ -5,18 +5,18 @@ use Rattle.std.proofs.lemmas.Int.{to_z-of_z}
 use Rattle.cost.proofs.Components.{vetted_more, vetted_met, vetted_all}
 use Rattle.cost.proofs.predicted.vet_vectors.Goals as goal
 
-pub returns-in-err-vet-vector : goal.returns-in-err-vet-vector
-returns-in-err-vet-vector c =
+pub returns-in_err-vet_vector : goal.returns-in_err-vet_vector
+returns-in_err-vet_vector c =
     let x : SFits w16 (get_or c.args.xs.now c.loop-i.i (pos 0)) = search rules in
     let y : SFits w16 (get_or c.args.ys.now c.loop-i.i (pos 0)) = search rules in
-    let p = err_from_is_err_and c.from-residual.result c.from-residual.ensures.1 in
-    rw (p.1, p.2) (vetted_met _ _ _ _ c.loop-i.invariant c.loop-i-test.true c.requires (simp to_z-of_z at c.in-err-vet-vector.ensures))
+    let p = err_from_is_err_and c.from_residual.result c.from_residual.ensures.1 in
+    rw (p.1, p.2) (vetted_met _ _ _ _ c.loop-i.invariant c.loop-i-test.true c.requires (simp to_z-of_z at c.in_err-vet_vector.ensures))
 
 pub loop-i-preserved : goal.loop-i-preserved
 loop-i-preserved c =
     let x : SFits w16 (get_or c.args.xs.now c.loop-i.i (pos 0)) = search rules in
     let y : SFits w16 (get_or c.args.ys.now c.loop-i.i (pos 0)) = search rules in
-    vetted_more _ _ _ c.loop-i.invariant c.loop-i-test.true c.requires (simp to_z-of_z at c.in-ok-vet-vector.ensures)
+    vetted_more _ _ _ c.loop-i.invariant c.loop-i-test.true c.requires (simp to_z-of_z at c.in_ok-vet_vector.ensures)
 
 pub returns : goal.returns
 returns c = vetted_all _ _ _ c.loop-i.invariant c.loop-i-test.false c.requires

@@ -6,5 +6,5 @@ use Rattle.job.proofs.reading.read_words.Goals as goal
 
 pub loop-k-preserved : goal.loop-k-preserved
 loop-k-preserved c =
-    let f : SFits w16 c.word-at.result = search rules in
-    filled_more (pos 0) 80 (λ i. word c.args.bytes.now (c.args.from + i)) c.loop-k.words c.loop-k.k _ (omega arith) (to_z-of_z w16 _ f ∙ c.word-at.ensures) c.loop-k.invariant
+    let f : SFits w16 c.word_at.result = search rules in
+    filled_more (pos 0) 80 (λ i. word c.args.bytes.now (c.args.from + i)) c.loop-k.words c.loop-k.k _ (omega arith) (to_z-of_z w16 _ f ∙ c.word_at.ensures) c.loop-k.invariant

@@ -7,5 +7,5 @@ use Rattle.job.proofs.reading.word_at.Goals as goal
 pub returns : goal.returns
 unfolding word
 returns c =
-    let f : SFits w16 c.from-le-bytes.result = search rules in
-    simp to_z-of_z (signed_bytes _ _ _ (search rules) (search rules) c.from-le-bytes.ensures)
+    let f : SFits w16 c.from_le_bytes.result = search rules in
+    simp to_z-of_z (signed_bytes _ _ _ (search rules) (search rules) c.from_le_bytes.ensures)

@@ -2,7 +2,7 @@ use Rattle.std.proofs.Common.{◌≡◌, ◌*◌, length, drop, arith, length-dr
 use Rattle.job.proofs.Rests.{rest_is}
 use Rattle.job.proofs.vetting.vet_pictures.Goals as goal
 
-pub returns-in-err-vet-list : goal.returns-in-err-vet-list
-returns-in-err-vet-list c =
-    let r = rest_is (length c.args.bytes.now) c.pixels-from-from.result c.pixels.result c.args.header.now.list.pictures (search rules) in
+pub returns-in_err-vet_list : goal.returns-in_err-vet_list
+returns-in_err-vet_list c =
+    let r = rest_is (length c.args.bytes.now) c.pixels_from-from.result c.pixels.result c.args.header.now.list.pictures (search rules) in
     search rules

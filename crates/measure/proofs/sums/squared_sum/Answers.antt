@@ -6,7 +6,7 @@ use Rattle.measure.proofs.sums.squared_sum.Goals as goal
 
 pub loop-i-preserved : goal.loop-i-preserved
 loop-i-preserved c =
-    total_step_to (square_at c.args.a.now c.args.b.now) 65025 _ _ _ _ (omega arith) c.loop-i.invariant c.apart-squared-sum.ensures.value c.apart-squared-sum.ensures.most
+    total_step_to (square_at c.args.a.now c.args.b.now) 65025 _ _ _ _ (omega arith) c.loop-i.invariant c.apart_squared-sum.ensures.value c.apart_squared-sum.ensures.most
 
 pub returns : goal.returns
 returns c =

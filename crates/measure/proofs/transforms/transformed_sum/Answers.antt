@@ -8,10 +8,10 @@ use Rattle.measure.proofs.transforms.transformed_sum.Goals as goal
 pub loop-n-preserved : goal.loop-n-preserved
 loop-n-preserved c =
     total_step (satd_at c.args.a.now c.args.b.now) 32640 _ _ _ c.loop-n.invariant
-    (c.square-cost-sum.ensures.value ∙ ap (λ x. satd4 (entries x)) c.matrix-at.ensures.value) c.square-cost-sum.ensures.most
+    (c.square_cost-sum.ensures.value ∙ ap (λ x. satd4 (entries x)) c.matrix_at.ensures.value) c.square_cost-sum.ensures.most
 
-pub overflow-add-sum : goal.overflow-add-sum
-overflow-add-sum c = let s = strip_lengths c.args.a.now c.args.b.now c.requires in omega (arith, c.loop-n.invariant.1, c.square-cost-sum.ensures.most)
+pub overflow_add-sum : goal.overflow_add-sum
+overflow_add-sum c = let s = strip_lengths c.args.a.now c.args.b.now c.requires in omega (arith, c.loop-n.invariant.1, c.square_cost-sum.ensures.most)
 
 pub returns : goal.returns
 returns c =

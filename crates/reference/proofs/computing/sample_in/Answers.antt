@@ -8,11 +8,11 @@ pub returns : goal.returns
 returns c =
     let x = c.ranges.x in
     let y = c.ranges.y in
-    let fx : SFits w32 c.cell-of-column.result = search rules in
-    let fy : SFits w32 c.cell-of-row.result = search rules in
-    let column = simp to_z-of_z at c.cell-of-column.ensures.value in
-    let row = simp to_z-of_z at c.cell-of-row.ensures.value in
-    let place = simp to_z-of_z at c.place-of-place.ensures.value in
+    let fx : SFits w32 c.cell_of-column.result = search rules in
+    let fy : SFits w32 c.cell_of-row.result = search rules in
+    let column = simp to_z-of_z at c.cell_of-column.ensures.value in
+    let row = simp to_z-of_z at c.cell_of-row.ensures.value in
+    let place = simp to_z-of_z at c.place_of-place.ensures.value in
     let shows = simp to_z-of_z at c.read.ensures.shows in
-    let e = from_patch c.read.result (grid_of c.args.plane.now) c.args.x c.args.y c.cell-of-column.result c.cell-of-row.result c.place-of-place.result 0 1 1 _ shows c.read.ensures.width c.read.ensures.height (lit≤ tt) c.place-of-place.ensures.small (lit< tt) column row place (c.quarter-rows.ensures 0 (lit< tt)) in
+    let e = from_patch c.read.result (grid_of c.args.plane.now) c.args.x c.args.y c.cell_of-column.result c.cell_of-row.result c.place_of-place.result 0 1 1 _ shows c.read.ensures.width c.read.ensures.height (lit≤ tt) c.place_of-place.ensures.small (lit< tt) column row place (c.quarter_rows.ensures 0 (lit< tt)) in
     simp nowhere at e

@@ -4,8 +4,8 @@ use Rattle.reference.specs.Bounds.{Within}
 use Rattle.reference.proofs.Products.{scaled_small, widened}
 use Rattle.reference.proofs.drawing.scaled.Goals as goal
 
-pub overflow-mul-result : goal.overflow-mul-result
-overflow-mul-result c =
+pub overflow_mul-result : goal.overflow_mul-result
+overflow_mul-result c =
     let z = c.ranges.z in
     let z' : SFits w32 c.args.z = omega (arith, ints) in
     let s = scaled_small c.args.a c.args.z c.ranges.a.fits z in

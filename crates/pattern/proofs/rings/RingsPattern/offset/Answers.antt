@@ -14,10 +14,10 @@ pub stretched-requires : goal.stretched-requires
 stretched-requires c =
     let w = c.args.self.now.range.value in
     let ok = c.args.self.now.range.ok in
-    subst (Within 4355) (sym (ring_point w c.args.i _ _ ok c.if-i-self.false c.sixteen-table.ensures c.pick.ensures))
+    subst (Within 4355) (sym (ring_point w c.args.i _ _ ok c.if-i-self.false c.sixteen_table.ensures c.pick.ensures))
     (within_more 64 4355 (get_or (rings w) c.args.i still) (rings_short w c.args.i ok) (omega arith))
 
 pub returns : goal.returns
 returns c =
     c.stretched.ensures ∙
-    ring_point c.args.self.now.range.value c.args.i _ _ c.args.self.now.range.ok c.if-i-self.false c.sixteen-table.ensures c.pick.ensures
+    ring_point c.args.self.now.range.value c.args.i _ _ c.args.self.now.range.ok c.if-i-self.false c.sixteen_table.ensures c.pick.ensures

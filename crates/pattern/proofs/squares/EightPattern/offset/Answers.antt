@@ -25,10 +25,10 @@ eight_near Two i = each_within 4355 (eight 2) tt i
 pub stretched-requires : goal.stretched-requires
 stretched-requires c =
     subst (Within 4355)
-    (sym (eight_point c.args.self.now c.args.i _ _ _ c.distance-of.ensures c.eight-table.ensures c.pick.ensures))
+    (sym (eight_point c.args.self.now c.args.i _ _ _ c.distance_of.ensures c.eight_table.ensures c.pick.ensures))
     (eight_near c.args.self.now c.args.i)
 
 pub returns : goal.returns
 returns c =
     c.stretched.ensures ∙
-    eight_point c.args.self.now c.args.i _ _ _ c.distance-of.ensures c.eight-table.ensures c.pick.ensures
+    eight_point c.args.self.now c.args.i _ _ _ c.distance_of.ensures c.eight_table.ensures c.pick.ensures

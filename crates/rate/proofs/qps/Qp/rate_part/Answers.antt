@@ -3,8 +3,8 @@ use Rattle.std.proofs.Common.{◌*◌, ◌/◌, ◌≤◌, ap, arith, rules}
 use Rattle.std.proofs.lemmas.Nat.{mul-le}
 use Rattle.rate.proofs.qps.Qp.rate_part.Goals as goal
 
-pub overflow-mul-result : goal.overflow-mul-result
-overflow-mul-result c =
+pub overflow_mul-result : goal.overflow_mul-result
+overflow_mul-result c =
     let b : c.args.bits ≤ 255 = search rules in
     let h : c.lambda.result * c.args.bits ≤ 5468703 * 255 = mul-le _ _ _ _ c.lambda.ensures.most b in
     record { fits = omega arith }

@@ -7,16 +7,16 @@ use Rattle.reference.proofs.patches.Patch.both_sum.Goals as goal
 pub returns : goal.returns
 unfolding both_tap
 returns c =
-    let re : SFits w32 c.sum-at-e.result = search rules in
-    let rf : SFits w32 c.sum-at-f.result = search rules in
-    let rg : SFits w32 c.sum-at-g.result = search rules in
-    let rh : SFits w32 c.sum-at-h.result = search rules in
-    let ri : SFits w32 c.sum-at-i.result = search rules in
-    let rj : SFits w32 c.sum-at-j.result = search rules in
-    let r : SFits w32 c.tap-sum.result = search rules in
-    let s = simp to_z-of_z at c.tap-sum.ensures in
+    let re : SFits w32 c.sum_at-e.result = search rules in
+    let rf : SFits w32 c.sum_at-f.result = search rules in
+    let rg : SFits w32 c.sum_at-g.result = search rules in
+    let rh : SFits w32 c.sum_at-h.result = search rules in
+    let ri : SFits w32 c.sum_at-i.result = search rules in
+    let rj : SFits w32 c.sum_at-j.result = search rules in
+    let r : SFits w32 c.tap_sum.result = search rules in
+    let s = simp to_z-of_z at c.tap_sum.ensures in
     simp to_z-of_z
     (record {
-      value = cc (s, c.sum-at-e.ensures.value, c.sum-at-f.ensures.value, c.sum-at-g.ensures.value, c.sum-at-h.ensures.value, c.sum-at-i.ensures.value, c.sum-at-j.ensures.value);
-      small = rw s (tap_wide _ _ _ _ _ _ c.sum-at-e.ensures.small c.sum-at-f.ensures.small c.sum-at-g.ensures.small c.sum-at-h.ensures.small c.sum-at-i.ensures.small c.sum-at-j.ensures.small);
+      value = cc (s, c.sum_at-e.ensures.value, c.sum_at-f.ensures.value, c.sum_at-g.ensures.value, c.sum_at-h.ensures.value, c.sum_at-i.ensures.value, c.sum_at-j.ensures.value);
+      small = rw s (tap_wide _ _ _ _ _ _ c.sum_at-e.ensures.small c.sum_at-f.ensures.small c.sum_at-g.ensures.small c.sum_at-h.ensures.small c.sum_at-i.ensures.small c.sum_at-j.ensures.small);
     })

@@ -12,9 +12,9 @@ returns c =
     let fb : SFits w32 c.before-3.result = search rules in
     let a = simp to_z-of_z at c.before-2.ensures.value in
     let b = simp to_z-of_z at c.before-3.ensures.value in
-    let read = simp to_z-of_z at c.read-front.ensures in
+    let read = simp to_z-of_z at c.read_front.ensures in
     record {
-      shows = shows_is (grid_of c.args.plane.now) c.before-2.result c.before-3.result c.args.x c.args.y (c.args.width + 5) (c.args.height + 5) c.extent.result c.read-front.new.out a b c.extent.ensures.value read;
+      shows = shows_is (grid_of c.args.plane.now) c.before-2.result c.before-3.result c.args.x c.args.y (c.args.width + 5) (c.args.height + 5) c.extent.result c.read_front.new.out a b c.extent.ensures.value read;
       width = refl;
       height = refl;
     }

@@ -17,4 +17,4 @@ pub returns : goal.returns
 unfolding left
 returns c =
     let s = c.args.self.now in
-    rw (c.moved-by-vector.ensures, c.offset-at.ensures.value) (ap (map (moved s.centre)) (c.after-self.ensures.follows s.reach c.if-self.false))
+    rw (c.moved_by-vector.ensures, c.offset_at.ensures.value) (ap (map (moved s.centre)) (c.after-self.ensures.follows s.reach c.if-self.false))
