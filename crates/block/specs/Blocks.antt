@@ -1,5 +1,5 @@
 -- Blocks of the current picture.
-use Rattle.std.specs.Prelude.{◌≡◌, ℕ, ◌+◌, ◌*◌, ◌/◌, ◌%◌, ◌<◌, ℤ, pos, Option, slice_index, unsigned_abs}
+use Rattle.std.specs.Prelude.{◌≡◌, ℕ, ◌+◌, ◌*◌, ◌/◌, ◌%◌, ◌<◌, pos, Option, slice_index, unsigned_abs}
 use Rattle.picture.specs.declared.faults.Fault.{Fault}
 use Rattle.picture.specs.declared.sizes.PictureSize.{PictureSize}
 use Rattle.picture.specs.Faults.{earlier}

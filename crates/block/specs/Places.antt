@@ -1,5 +1,5 @@
 -- Places of blocks, and when one is refused.
-use Rattle.std.specs.Prelude.{◌≡◌, ℕ, ◌+◌, ◌%◌, ◌≤◌, Bool, false, not, ◌&&◌, List, [], ◌∷◌, ℤ, pos, negsuc, Option, ◌==◌, nat_le}
+use Rattle.std.specs.Prelude.{◌≡◌, ℕ, ◌+◌, ◌%◌, ◌≤◌, Bool, false, not, ◌&&◌, [], ◌∷◌, ℤ, pos, negsuc, Option, ◌==◌, nat_le}
 use Rattle.picture.specs.declared.faults.Row.TheVariants as rows
 use Rattle.picture.specs.declared.faults.Layer.TheVariants as layers
 use Rattle.picture.specs.declared.faults.Fault.{Fault}

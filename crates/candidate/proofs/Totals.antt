@@ -1,10 +1,9 @@
 -- Running totals: they never fall, and where a trial stops.
-use Rattle.std.proofs.Common.{◌≡◌, ℕ, zero, suc, ◌+◌, ◌*◌, ◌<◌, ◌≤◌, Bool, true, false, cond, ltb, leb, length, sym, refl, ap, ◌∙◌, ⊎_elim, add-one, arith, below_more}
+use Rattle.std.proofs.Common.{◌≡◌, ℕ, zero, suc, ◌+◌, ◌*◌, ◌<◌, ◌≤◌, true, false, ltb, leb, length, sym, ap, ◌∙◌, ⊎_elim, add-one, arith, below_more}
 use Rattle.std.proofs.lemmas.Bool.Decides.{nat_tests}
 use Rattle.std.proofs.lemmas.Bool.{cases_lt}
 use Rattle.measure.specs.Sums.{total}
-use Rattle.candidate.specs.declared.prices.Trial.{Trial}
-use Rattle.candidate.specs.Prices.{CostParts, cost_at, running, cost_of, Fewest, fewest_of, read_under, Tried}
+use Rattle.candidate.specs.Prices.{CostParts, cost_at, running, cost_of, fewest_of, Tried}
 
 total_rises : (f : ℕ → ℕ) (k n : ℕ) → k ≤ n → total k f ≤ total n f
 total_rises f k zero h = let e : k ≡ 0 = omega arith in rw e (omega arith)

@@ -51,7 +51,7 @@ dented place = slice_set (flat 0) place 3
 
 -- what two strips cost by each measure
 abbrev pub costs : List ℕ → List ℕ → ℕ → ℕ → ℕ → List Example
-costs a b isSad isSsd isSatd = row "SAD" (sad a b) isSad ∷ row "SSD" (ssd a b) isSsd ∷ row "SATD" (satd a b) isSatd ∷ []
+costs a b is_sad is_ssd is_satd = row "SAD" (sad a b) is_sad ∷ row "SSD" (ssd a b) is_ssd ∷ row "SATD" (satd a b) is_satd ∷ []
 
 -- a single difference of 3 at each of the first n places, either way round
 abbrev pub dents : ℕ → List Example

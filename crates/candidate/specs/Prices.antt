@@ -1,5 +1,5 @@
 -- Prices: running totals over strips, the cost J, and how far a trial under a bound reads.
-use Rattle.std.specs.Prelude.{◌≡◌, ℕ, zero, suc, ◌+◌, ◌<◌, ◌≤◌, Bool, true, cond, List, length, nat_le, nat_lt, slice_index}
+use Rattle.std.specs.Prelude.{◌≡◌, ℕ, zero, suc, ◌+◌, ◌<◌, ◌≤◌, true, cond, List, length, nat_le, nat_lt, slice_index}
 use Rattle.measure.specs.Sums.{total}
 use Rattle.candidate.specs.declared.prices.Trial.{Trial}
 

@@ -1,5 +1,5 @@
 -- The strips of a block, and what they cost against the samples of a list.
-use Rattle.std.specs.Prelude.{ℕ, ◌+◌, ◌*◌, ◌/◌, Bool, true, cond, List, map, take, drop, ℤ, pos, ◌+ℤ◌, Some, None, Option}
+use Rattle.std.specs.Prelude.{ℕ, ◌+◌, ◌*◌, ◌/◌, cond, List, map, take, drop, pos, ◌+ℤ◌, Some, None, Option}
 use Rattle.std.specs.List.{range_with_len}
 use Rattle.reference.specs.Lists.{ListMeaning, strip_of}
 use Rattle.block.specs.declared.blocks.Block.{Block}

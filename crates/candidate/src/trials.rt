@@ -1,7 +1,6 @@
 //! One strip of a block against the list's samples, and the law's one use.
-ghost use Rattle.std.specs.Prelude.{◌≡◌, ◌+◌, ◌*◌, ◌/◌, ◌<◌, ◌≤◌, true, length, take, drop, pos, ◌+ℤ◌, unsigned_abs};
+ghost use Rattle.std.specs.Prelude.{◌≡◌, ◌+◌, ◌*◌, ◌<◌, ◌≤◌, true, length, take, drop, pos, ◌+ℤ◌, unsigned_abs};
 ghost use Rattle.reference.specs.Lists.{is_strip, strip_of};
-ghost use Rattle.block.specs.Shapes.{shape_height};
 ghost use Rattle.measure.specs.Strips.{asked};
 ghost use Rattle.candidate.specs.Strips.{strip_cost};
 

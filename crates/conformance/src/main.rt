@@ -1,8 +1,6 @@
 //! `conformance`: compares the engine with a table of outside results on standard input, and counts what agrees.
 #![tactic(auto)]
 
-ghost use Rattle.std.specs.Prelude.{◌≡◌};
-
 use anyhow::anyhow;
 use picture::{ReferencePictures, vet_list};
 use reference::{ComputedList, DrawnList, ReferenceList, vet_drawn};

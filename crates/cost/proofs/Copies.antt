@@ -1,5 +1,5 @@
 -- A list copied into an array of zeros.
-use Rattle.std.proofs.Common.{◌≡◌, ℕ, zero, suc, ◌+◌, List, [], ◌∷◌, ◌++◌, length, get_or, drop, replicate, ℤ, pos, sym, refl, ◌∙◌, subst}
+use Rattle.std.proofs.Common.{◌≡◌, ℕ, zero, suc, ◌+◌, List, [], ◌∷◌, ◌++◌, get_or, drop, replicate, ℤ, pos, sym, refl, ◌∙◌, subst}
 use Rattle.std.proofs.lemmas.List.{take_at, get_or-drop}
 use Rattle.cost.specs.Predicted.{Copied}
 

@@ -1,5 +1,5 @@
 -- Strips of a block and of a picture, as they are cut out of arrays.
-use Rattle.std.proofs.Common.{◌≡◌, ℕ, ◌+◌, ◌*◌, ◌<◌, ◌≤◌, List, length, get_or, take, drop, ℤ, ap, arith}
+use Rattle.std.proofs.Common.{◌≡◌, ℕ, ◌+◌, ◌*◌, ◌<◌, ◌≤◌, List, length, get_or, take, drop, ℤ, arith}
 use Rattle.std.proofs.lemmas.Nat.{mul-le}
 use Rattle.picture.specs.Planes.{Grid}
 use Rattle.picture.proofs.Filled.{part_is}

@@ -1,5 +1,5 @@
 -- Predicted vectors: when they are refused, and how they are kept.
-use Rattle.std.specs.Prelude.{◌≡◌, ℕ, ◌≤◌, max, Bool, cond, not, ◌&&◌, List, [], ◌∷◌, length, take, ℤ, pos, Some, None, Option, ◌==◌, nat_le, nat_lt, slice_index_or, unsigned_abs}
+use Rattle.std.specs.Prelude.{◌≡◌, ℕ, ◌≤◌, max, cond, not, ◌&&◌, List, [], ◌∷◌, length, take, ℤ, pos, Some, None, Option, ◌==◌, nat_le, nat_lt, slice_index_or, unsigned_abs}
 use Rattle.picture.specs.declared.faults.Row.TheVariants as rows
 use Rattle.picture.specs.declared.faults.Layer.TheVariants as layers
 use Rattle.picture.specs.declared.faults.Fault.{Fault}

@@ -1,5 +1,5 @@
 -- The price of the centre of a window.
-use Rattle.std.specs.Prelude.{ℕ, ◌+◌, cond, ℤ, pos, ◌-ℤ◌, ◌*ℤ◌, Some, None, Option, nat_lt, slice_index_or}
+use Rattle.std.specs.Prelude.{ℕ, ◌+◌, cond, pos, ◌-ℤ◌, ◌*ℤ◌, Some, None, Option, nat_lt, slice_index_or}
 use Rattle.picture.specs.Planes.{Grid}
 use Rattle.rate.specs.declared.vectors.Vector.{Vector}
 use Rattle.cost.specs.declared.prices.Price.{Price}

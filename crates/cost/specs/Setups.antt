@@ -1,11 +1,11 @@
 -- What is vetted before vectors are priced, in its order.
-use Rattle.std.specs.Prelude.{◌≡◌, ℕ, not, List, [], ◌∷◌, length, ℤ, pos, Option, ◌==◌}
+use Rattle.std.specs.Prelude.{◌≡◌, not, List, [], ◌∷◌, length, ℤ, pos, Option, ◌==◌}
 use Rattle.picture.specs.declared.faults.Row.TheVariants as rows
 use Rattle.picture.specs.declared.faults.Layer.TheVariants as layers
 use Rattle.picture.specs.declared.faults.Fault.{Fault}
 use Rattle.picture.specs.declared.sizes.PictureSize.{PictureSize}
 use Rattle.picture.specs.declared.sizes.ListSize.{ListSize}
-use Rattle.picture.specs.Faults.{Rule, fault, first, earlier}
+use Rattle.picture.specs.Faults.{fault, first, earlier}
 use Rattle.picture.specs.Planes.{Grid}
 use Rattle.block.specs.declared.places.BlockRequest.{BlockRequest}
 use Rattle.cost.specs.declared.setups.Setup.{Setup}

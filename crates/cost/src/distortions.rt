@@ -1,7 +1,6 @@
 //! The SAD of a block against a reference picture, at whole-sample vectors.
 ghost use Rattle.std.specs.Prelude.{◌≡◌, ℕ, ◌+◌, ◌*◌, ◌/◌, ◌<◌, ◌≤◌, pos, ◌+ℤ◌, slice_index};
 ghost use Rattle.picture.specs.Pictures.{whole_of};
-ghost use Rattle.block.specs.Shapes.{shape_height};
 ghost use Rattle.cost.specs.Distortions.{Near, strip_sad, block_sad};
 ghost use Rattle.picture.specs.Planes.{grid_sample};
 

@@ -1,5 +1,5 @@
 //! Pricing the centres of search windows.
-ghost use Rattle.std.specs.Prelude.{◌≡◌, pos, ◌*ℤ◌};
+ghost use Rattle.std.specs.Prelude.{◌≡◌};
 ghost use Rattle.picture.specs.Pictures.{whole_of};
 ghost use Rattle.cost.specs.Distortions.{Near};
 ghost use Rattle.cost.specs.Prices.{centre_in, quarters_of, centre_price};

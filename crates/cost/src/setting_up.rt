@@ -1,5 +1,5 @@
 //! Vetting of all that vectors are priced with.
-ghost use Rattle.std.specs.Prelude.{◌≡◌, pos};
+ghost use Rattle.std.specs.Prelude.{◌≡◌};
 ghost use Rattle.picture.specs.Faults.{Answers};
 ghost use Rattle.picture.specs.Planes.{grid_of};
 ghost use Rattle.cost.specs.Setups.{mismatch_fault, setup_fault, SetupIs};

@@ -11,7 +11,7 @@ pub record IsHead (b : List ℕ) (h : Head) : Type 0 where
   pub proposals : h.proposals ≡ proposals_in b
   pub left : h.left ≡ left_in b
   pub top : h.top ≡ top_in b
-  pub block-width : h.block_width ≡ block_width_in b
-  pub block-height : h.block_height ≡ block_height_in b
+  pub block_width : h.block_width ≡ block_width_in b
+  pub block_height : h.block_height ≡ block_height_in b
   pub qp : h.qp ≡ qp_in b
   pub range : h.range ≡ range_in b

@@ -1,9 +1,9 @@
 -- When a job is refused.
-use Rattle.std.specs.Prelude.{◌≡◌, ℕ, ◌+◌, ◌*◌, ◌≤◌, Bool, false, not, List, [], ◌∷◌, length, ℤ, pos, negsuc, Option, ◌==◌, nat_le, nat_lt}
+use Rattle.std.specs.Prelude.{◌≡◌, ℕ, ◌≤◌, Bool, false, not, List, [], ◌∷◌, length, ℤ, pos, negsuc, Option, ◌==◌, nat_le, nat_lt}
 use Rattle.picture.specs.declared.Row.TheVariants as rows
 use Rattle.picture.specs.declared.Layer.TheVariants as layers
 use Rattle.picture.specs.declared.Fault.{Fault}
-use Rattle.picture.specs.Faults.{Rule, fault, first, earlier}
+use Rattle.picture.specs.Faults.{fault, first, earlier}
 use Rattle.picture.specs.Vetting.{size_fault, count_fault}
 use Rattle.job.specs.Format.{width_in, height_in, pictures_in, proposals_in, stated_length}
 

@@ -1,5 +1,5 @@
 //! Where the parts of a job lie.
-ghost use Rattle.std.specs.Prelude.{◌≡◌, ℕ, ◌≤◌};
+ghost use Rattle.std.specs.Prelude.{◌≡◌, ◌≤◌};
 ghost use Rattle.job.specs.Layouts.{pixels_from, pixels, stated};
 
 use crate::headers::Header;

@@ -1,5 +1,5 @@
 //! Vetting of a job, before anything is made over its bytes.
-ghost use Rattle.std.specs.Prelude.{◌≡◌, ℕ, ◌≤◌, length, pos, None};
+ghost use Rattle.std.specs.Prelude.{◌≡◌, ◌≤◌, length, None};
 ghost use Rattle.picture.specs.Faults.{Answers};
 ghost use Rattle.job.specs.Vetting.{extent_fault, head_fault, proposals_fault, length_fault, job_fault, InExtent, ProposalsAre};
 ghost use Rattle.job.specs.Layouts.{stated};

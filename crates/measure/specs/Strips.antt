@@ -1,7 +1,7 @@
 -- Strips of samples, and what a measure's question answers.
-use Rattle.std.specs.Prelude.{ℕ, ◌≤◌, Bool, cond, ◌&&◌, ◌||◌, T, List, length, get_or, ◌==◌, slice_index}
+use Rattle.std.specs.Prelude.{ℕ, ◌≤◌, Bool, cond, ◌&&◌, ◌||◌, T, List, length, ◌==◌, slice_index}
 
--- every sample of the list is a byte (past its end get_or gives 0)
+-- every sample of the list is a byte (past its end `slice_index` gives 0)
 abbrev pub Bytes : List ℕ → Type 0
 Bytes xs = (k : ℕ) → slice_index xs k ≤ 255
 

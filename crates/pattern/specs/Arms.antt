@@ -9,8 +9,8 @@ use Rattle.rate.specs.declared.vectors.Vector.{Vector}
 use Rattle.cost.specs.Ranges.{Reach}
 use Rattle.pattern.specs.Offsets.{at, still, times, Within}
 use Rattle.pattern.specs.Patterns.{cross, oddly, rings, sixteen}
-use Rattle.pattern.specs.Joins.{length_joined, get_d_joined}
-use Rattle.pattern.specs.Shorts.{each_within, get_d_times, times_within}
+use Rattle.pattern.specs.Joins.{length_joined, get_or_joined}
+use Rattle.pattern.specs.Shorts.{each_within, get_or_times, times_within}
 
 -- the component at an index of a line
 abbrev pub odd_at : ℕ → ℤ
@@ -27,7 +27,7 @@ line_at : (f : ℤ → Vector) (n i : ℕ) → i < n * 2 → slice_index_or (lin
 line_at f n i lt =
     let e : i / 2 * 2 + i % 2 ≡ i = omega arith in
     ap (λ (k : ℕ). get_or (line f n) k still) (sym e) ∙
-    get_d_joined 2 (λ (k : ℕ). map f (oddly k)) (λ k. refl) 1 n (i / 2) (i % 2) still (omega arith) (omega arith) ∙
+    get_or_joined 2 (λ (k : ℕ). map f (oddly k)) (λ k. refl) 1 n (i / 2) (i % 2) still (omega arith) (omega arith) ∙
     get_or-map f (oddly (1 + i / 2)) (i % 2) (pos 0) still (omega arith)
 
 pub length_cross : (w : ℕ) → Reach w → length (cross w) ≡ w + w / 2
@@ -60,8 +60,8 @@ unfolding rings sixteen
 rings_at w i h lt =
     let e : i / 16 * 16 + i % 16 ≡ i = omega arith in
     ap (λ (k : ℕ). get_or (rings w) k still) (sym e) ∙
-    get_d_joined 16 (λ (k : ℕ). map (times k) sixteen) (λ k. refl) 1 (w / 4) (i / 16) (i % 16) still (omega arith) (omega arith) ∙
-    get_d_times (1 + i / 16) sixteen (i % 16)
+    get_or_joined 16 (λ (k : ℕ). map (times k) sixteen) (λ k. refl) 1 (w / 4) (i / 16) (i % 16) still (omega arith) (omega arith) ∙
+    get_or_times (1 + i / 16) sixteen (i % 16)
 
 pub rings_past : (w i : ℕ) → Reach w → 4 * w ≤ i → slice_index_or (rings w) i still ≡ still
 rings_past w i h le = get_or_past (rings w) i still (omega (arith, length_rings w h))
@@ -95,3 +95,15 @@ odd_minus i z r e = subst (λ (k : ℕ). z ≡ slice_index_or (oddly (1 + i / 2)
 -- a point that was read from a table of ring 1, stretched
 pub ring_point : (w i : ℕ) (table : List Vector) (o : Vector) → Reach w → i < 4 * w → table ≡ sixteen → o ≡ slice_index_or table (i % 16) still → times (1 + i / 16) o ≡ slice_index_or (rings w) i still
 ring_point w i table o h lt te oe = rw (oe, te) (sym (rings_at w i h lt))
+
+-- every offset of a cross is short
+pub cross_short : (w k : ℕ) → Reach w → Within 64 (slice_index_or (cross w) k still)
+cross_short w k h =
+    ⊎_elim
+    (λ (l : k < w). subst (Within 64) (sym (cross_level w k h l)) (odd_at_short k (omega arith), omega arith))
+    (λ (m : w ≤ k).
+    ⊎_elim
+    (λ (l : k < w + w / 2). subst (Within 64) (sym (cross_upright w k h m l)) (omega arith, odd_at_short (k - w) (omega arith)))
+    (λ (m : w + w / 2 ≤ k). subst (Within 64) (sym (cross_past w k h m)) (omega arith, omega arith))
+    (cases_lt k (w + w / 2)))
+    (cases_lt k w)

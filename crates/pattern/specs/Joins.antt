@@ -54,16 +54,16 @@ length_joined m f a (suc n) h =
     omega (arith, h a (omega arith) (omega arith), length_joined m f (a + 1) n (λ k l g. h k (omega arith) (omega arith)), suc-mul n m)
 
 -- the element at r of the part at q
-pub get_d_joined : {X : Type 0} (n : ℕ) (f : ℕ → List X) → ((k : ℕ) → length (f k) ≡ n) → (a m q r : ℕ) (d : X) → q < m → r < n → slice_index_or (flat_map f (range_with_len a m)) (q * n + r) d ≡ slice_index_or (f (a + q)) r d
-get_d_joined n f b a zero q r d lt in' = absurd (not-suc-le-zero lt)
-get_d_joined n f b a (suc m) zero r d lt in' =
+pub get_or_joined : {X : Type 0} (n : ℕ) (f : ℕ → List X) → ((k : ℕ) → length (f k) ≡ n) → (a m q r : ℕ) (d : X) → q < m → r < n → slice_index_or (flat_map f (range_with_len a m)) (q * n + r) d ≡ slice_index_or (f (a + q)) r d
+get_or_joined n f b a zero q r d lt in' = absurd (not-suc-le-zero lt)
+get_or_joined n f b a (suc m) zero r d lt in' =
     let e : zero * n + r ≡ r = omega (arith, zero-mul n) in
     let l : r < length (f a) = omega (arith, b a) in
     rw (e, add-zero a) (get_or_append_left (f a) (flat_map f (range_with_len (a + 1) m)) d r l)
-get_d_joined n f b a (suc m) (suc q) r d lt in' =
+get_or_joined n f b a (suc m) (suc q) r d lt in' =
     let e : suc q * n + r - n ≡ q * n + r = omega (arith, suc-mul q n) in
     let s : a + 1 + q ≡ a + suc q = omega arith in
     get_or-append_right (f a) (flat_map f (range_with_len (a + 1) m)) n (suc q * n + r) d (b a) (omega (arith, suc-mul q n)) ∙
     ap (λ (i : ℕ). get_or (flat_map f (range_with_len (a + 1) m)) i d) e ∙
-    get_d_joined n f b (a + 1) m q r d (omega arith) in' ∙
+    get_or_joined n f b (a + 1) m q r d (omega arith) in' ∙
     ap (λ (k : ℕ). get_or (f k) r d) s

@@ -3,4 +3,3 @@ pub mod Patterns
 pub mod Arms
 pub mod Joins
 pub mod Shorts
-pub mod CrossPatternLemmas

@@ -42,10 +42,10 @@ times_within k m n o h le =
     (omega (arith, nat_abs_times k o.x, mul-le-mul_left k h.0), omega (arith, nat_abs_times k o.y, mul-le-mul_left k h.1))
 
 -- an element of a list's multiple
-pub get_d_times : (k : ℕ) (os : List Vector) (i : ℕ) → slice_index_or (map (times k) os) i still ≡ times k (slice_index_or os i still)
-get_d_times k [] i = rw *ℤ-zero refl
-get_d_times k (o ∷ os) zero = refl
-get_d_times k (o ∷ os) (suc i) = get_d_times k os i
+pub get_or_times : (k : ℕ) (os : List Vector) (i : ℕ) → slice_index_or (map (times k) os) i still ≡ times k (slice_index_or os i still)
+get_or_times k [] i = rw *ℤ-zero refl
+get_or_times k (o ∷ os) zero = refl
+get_or_times k (o ∷ os) (suc i) = get_or_times k os i
 
 pub within_more : (m n : ℕ) (o : Vector) → Within m o → m ≤ n → Within n o
 within_more m n o h le = (omega arith, omega arith)

@@ -4,8 +4,7 @@ ghost use Rattle.picture.specs.Faults.{Answers};
 ghost use Rattle.cost.specs.Ranges.{range_fault};
 ghost use Rattle.pattern.specs.Patterns.{cross, oddly};
 ghost use Rattle.std.proofs.Common.{arith};
-ghost use Rattle.pattern.specs.Arms.{length_cross};
-ghost use Rattle.pattern.specs.CrossPatternLemmas;
+ghost use Rattle.pattern.specs.Arms.{length_cross, cross_short};
 
 use crate::patterns::Pattern;
 use cost::SearchRange;
@@ -43,7 +42,7 @@ impl Pattern for Cross {
 
     ghost few = { λ p. omega (arith, length_cross p.range.value p.range.ok) };
 
-    ghost short = { λ p k. CrossPatternLemmas.short p.range.value k p.range.ok };
+    ghost short = { λ p k. cross_short p.range.value k p.range.ok };
 
     fn len(&self) -> usize {
         let across = self.range.value as usize;

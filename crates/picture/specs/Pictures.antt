@@ -1,5 +1,5 @@
 -- The pictures of a list, back to back.
-use Rattle.std.specs.Prelude.{ℕ, ◌*◌, cond, List, take, drop, ℤ, nat_lt}
+use Rattle.std.specs.Prelude.{ℕ, ◌*◌, cond, List, take, drop, nat_lt}
 use Rattle.picture.specs.declared.sizes.PictureSize.{PictureSize}
 use Rattle.picture.specs.declared.pictures.ReferencePictures.{ReferencePictures}
 use Rattle.picture.specs.Planes.{Grid, grid}

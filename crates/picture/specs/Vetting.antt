@@ -1,5 +1,5 @@
 -- When a picture or a list is refused, and what is known of an accepted one.
-use Rattle.std.specs.Prelude.{◌≡◌, ℕ, ◌*◌, Bool, not, List, [], ◌∷◌, ℤ, pos, Option, ◌==◌, unsigned_abs}
+use Rattle.std.specs.Prelude.{◌≡◌, ℕ, ◌*◌, not, [], ◌∷◌, ℤ, pos, Option, ◌==◌, unsigned_abs}
 use Rattle.picture.specs.declared.faults.Row.TheVariants as rows
 use Rattle.picture.specs.declared.faults.Layer.{Layer}
 use Rattle.picture.specs.declared.faults.Layer.TheVariants as layers

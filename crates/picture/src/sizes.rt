@@ -1,5 +1,5 @@
 //! Sizes of pictures and of lists of them.
-ghost use Rattle.std.specs.Prelude.{ℕ, ◌≤◌};
+ghost use Rattle.std.specs.Prelude.{◌≤◌};
 ghost use Rattle.picture.specs.Sizes.{Size};
 
 /// A width and a height that a picture may have.

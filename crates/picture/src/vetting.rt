@@ -1,7 +1,7 @@
 //! Vetting of pictures and lists, before a plane or a list is made over their bytes.
-ghost use Rattle.std.specs.Prelude.{◌≡◌, ℕ, ◌*◌, length, pos};
+ghost use Rattle.std.specs.Prelude.{◌≡◌, ◌*◌, length};
 ghost use Rattle.picture.specs.Faults.{Answers};
-ghost use Rattle.picture.specs.Sizes.{is_size, is_count};
+ghost use Rattle.picture.specs.Sizes.{is_size};
 ghost use Rattle.picture.specs.Vetting.{size_fault, count_fault, picture_fault, list_fault, SizeIs, CountIs, PictureIs, ListIs};
 
 use crate::faults::{Fault, Layer, Row};

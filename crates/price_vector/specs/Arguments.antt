@@ -1,5 +1,5 @@
 -- The components that may be named as an argument.
-use Rattle.std.specs.Prelude.{ℕ, cond, ℤ, Some, None, Option, nat_le, unsigned_abs}
+use Rattle.std.specs.Prelude.{cond, ℤ, Some, None, Option, nat_le, unsigned_abs}
 
 -- a component of at most 4,400 quarter samples either way
 abbrev pub named_component : ℤ → Option ℤ

@@ -68,7 +68,7 @@ fn read_arguments(rt: &HostRuntime) -> anyhow::Result<Asked> {
     if let (Some(x), Some(y), None) = (args.next(), args.next(), args.next()) {
         return Ok(Asked::Vector(read_candidate(first.as_str(), x.as_str(), y.as_str())?));
     }
-    Err(anyhow!("takes no arguments, or three: PICTURE X Y; try price_vector --help"))
+    Err(anyhow!("price_vector takes no arguments, or three: PICTURE X Y; try price_vector --help"))
 }
 
 /// The job's bytes, and no more of a longer input than shows that it is too long.

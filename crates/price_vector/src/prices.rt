@@ -1,5 +1,5 @@
 //! The costs of one candidate under each measure.
-ghost use Rattle.std.specs.Prelude.{◌≡◌, pos};
+ghost use Rattle.std.specs.Prelude.{◌≡◌};
 ghost use Rattle.reference.specs.Computed.{computed};
 ghost use Rattle.price_vector.specs.Prices.{centre_candidate, costs_of};
 

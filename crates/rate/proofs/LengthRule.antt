@@ -12,7 +12,7 @@ says : (k x : ℕ) → T (fitting k x) → CodeLength k x
 says k x t =
     let p = parted (eqb x (2 * (x / 2) + 1)) _ t in
     let q = parted (leb (2 ^ (x / 2)) (k + 1)) _ p.1 in
-    record { log = x / 2; is-log = record { low = leb→le _ _ q.0; high = ltb→lt _ _ q.1 }; is-length = eqb→eq _ _ p.0 }
+    record { log = x / 2; is_log = record { low = leb→le _ _ q.0; high = ltb→lt _ _ q.1 }; is_length = eqb→eq _ _ p.0 }
 
 placed_is : (d : ℤ) (i : ℕ) → pos i ≡ d +ℤ pos 261 → placed i ≡ code_number d
 placed_is (pos n) i e = let h : i ≡ n + 261 = omega (arith, ints) in grind (arith, nat_tests)
@@ -35,7 +35,7 @@ log2_is x n l =
     (λ m h. no_more x n m l.high (leb→le _ _ (is_T h)))
 
 pub length_is : (k b : ℕ) → CodeLength k b → b ≡ code_length k
-length_is k b l = let e = log2_is (k + 1) l.log l.is-log in omega (arith, l.is-length)
+length_is k b l = let e = log2_is (k + 1) l.log l.is_log in omega (arith, l.is_length)
 
 -- the entry at the place of d
 pub ruled : (xs : List ℕ) (d : ℤ) (i : ℕ) → T (every right 0 xs) → i < length xs → pos i ≡ d +ℤ pos 261 → CodeLength (code_number d) (get_or xs i 0)
@@ -49,7 +49,7 @@ ruled_by_number xs k t h = says k (get_or xs k 0) (at fitting xs t k h)
 -- a code number below 2 ^ n - 1 has a length below 2 n
 pub length_most : (k b n : ℕ) → CodeLength k b → k + 1 < 2 ^ n → b < 2 * n
 length_most k b n l h =
-    omega (arith, not-over (λ (o : n ≤ l.log). omega (arith, pow_mono {i = n} {j = l.log} o, l.is-log.low)), l.is-length)
+    omega (arith, not-over (λ (o : n ≤ l.log). omega (arith, pow_mono {i = n} {j = l.log} o, l.is_log.low)), l.is_length)
   where
     not-over : (n ≤ l.log → ⊥) → l.log < n
     not-over f = grind arith

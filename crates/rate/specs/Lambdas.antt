@@ -1,5 +1,5 @@
 -- The scaled lambda, and the rate part of a cost.
-use Rattle.std.specs.Prelude.{ℕ, ◌+◌, ◌*◌, ◌/◌, ◌^◌, ◌≤◌, Bool, ◌&&◌, leb, nat_le, nat_lt}
+use Rattle.std.specs.Prelude.{ℕ, ◌+◌, ◌*◌, ◌/◌, ◌^◌, ◌≤◌, Bool, ◌&&◌, nat_le, nat_lt}
 use Rattle.rate.specs.Greatest.{greatest}
 
 -- the sixth power of l, times 8,000, is at most 4,913 times 2 to the power 84 + QP
@@ -8,7 +8,7 @@ Under qp l = l ^ 6 * 8000 ≤ 4913 * 2 ^ (84 + qp)
 
 -- L(QP) as a number: the greatest l of which that holds
 unfoldable pub scaled_lambda : ℕ → ℕ
-scaled_lambda qp = greatest (λ l. leb (l ^ 6 * 8000) (4913 * 2 ^ (84 + qp))) (4913 * 2 ^ (84 + qp) + 1)
+scaled_lambda qp = greatest (λ l. nat_le (l ^ 6 * 8000) (4913 * 2 ^ (84 + qp))) (4913 * 2 ^ (84 + qp) + 1)
 
 -- the rate part of R bits: floor(L(QP) * R / 65,536)
 abbrev pub rate_part_at : ℕ → ℕ → ℕ

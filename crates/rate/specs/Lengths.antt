@@ -1,5 +1,5 @@
 -- Code numbers of differences, and the lengths of their codes in bits.
-use Rattle.std.specs.Prelude.{◌≡◌, ℕ, ◌+◌, ◌-◌, ◌*◌, ◌/◌, ◌^◌, ◌<◌, ◌≤◌, Bool, cond, ◌&&◌, leb, ℤ, pos, negsuc, Some, None, Option, ◌==◌, nat_le, nat_lt, unsigned_abs}
+use Rattle.std.specs.Prelude.{◌≡◌, ℕ, ◌+◌, ◌-◌, ◌*◌, ◌/◌, ◌^◌, ◌<◌, ◌≤◌, Bool, cond, ◌&&◌, ℤ, pos, negsuc, Some, None, Option, ◌==◌, nat_le, nat_lt, unsigned_abs}
 use Rattle.rate.specs.Greatest.{greatest}
 
 -- n is floor(log2(x))
@@ -15,12 +15,12 @@ code_number (negsuc d) = 2 * (d + 1)
 -- the code number k has a code of this many bits: 2 * floor(log2(k + 1)) + 1
 pub record CodeLength (k bits : ℕ) : Type 0 where
   pub log : ℕ
-  pub is-log : Log2 (k + 1) log
-  pub is-length : bits ≡ 2 * log + 1
+  pub is_log : Log2 (k + 1) log
+  pub is_length : bits ≡ 2 * log + 1
 
 -- floor(log2(x)) as a number, for x from 1
 abbrev pub log2 : ℕ → ℕ
-log2 x = greatest (λ n. leb (2 ^ n) x) x
+log2 x = greatest (λ n. nat_le (2 ^ n) x) x
 
 -- that many bits as a number
 abbrev pub code_length : ℕ → ℕ

@@ -1,13 +1,13 @@
 -- The parts of a patch are those of the picture that it shows, and make up the sixteen samples of each cell.
-use Rattle.std.proofs.Common.{◌≡◌, ℕ, zero, suc, ◌+◌, ◌*◌, ◌/◌, ◌%◌, ◌<◌, ◌≤◌, List, get_or, ℤ, pos, negsuc, ◌+ℤ◌, ◌-ℤ◌, ◌*ℤ◌, nat_abs, ◌≤ℤ◌, ◌<ℤ◌, sym, refl, ap, ◌∙◌, arith}
+use Rattle.std.proofs.Common.{◌≡◌, ℕ, zero, suc, ◌+◌, ◌*◌, ◌/◌, ◌%◌, ◌<◌, ◌≤◌, get_or, ℤ, pos, negsuc, ◌+ℤ◌, ◌-ℤ◌, ◌*ℤ◌, ◌≤ℤ◌, ◌<ℤ◌, sym, refl, ap, ◌∙◌, arith}
 use Rattle.std.specs.Int.{int_div_euclid, int_rem_euclid}
 use Rattle.std.proofs.lemmas.Int.{ints}
 use Rattle.picture.specs.Planes.{Grid}
 use Rattle.reference.specs.declared.patches.Patch.{Patch}
 use Rattle.reference.specs.declared.parts.Part.{Part}
 use Rattle.reference.specs.declared.parts.Part.TheVariants.{Whole, Right, Below, Across, AcrossBelow, Down, DownRight, Middle}
-use Rattle.reference.specs.Interpolation.{tap, across, downwards, middle, rounded, rounded_twice, mean, cell, quarter, place_of}
-use Rattle.reference.specs.Patches.{patch_at, Shows, row_tap, column_tap, both_tap, part_in, pair_at, placed, placed_row}
+use Rattle.reference.specs.Interpolation.{across, downwards, middle, rounded, rounded_twice, mean, cell, quarter, place_of}
+use Rattle.reference.specs.Patches.{Shows, row_tap, column_tap, both_tap, part_in, pair_at, placed, placed_row}
 use Rattle.picture.specs.Planes.{grid_sample}
 use Rattle.reference.proofs.Places.{column_below, row_below}
 

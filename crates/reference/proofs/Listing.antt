@@ -1,5 +1,5 @@
 -- The samples of a computing list, in a picture that there is and in one that there is not.
-use Rattle.std.proofs.Common.{◌≡◌, ℕ, ◌<◌, ◌≤◌, true, false, cond, ltb, ℤ, sym, ap, ◌∙◌, arith}
+use Rattle.std.proofs.Common.{◌≡◌, ℕ, ◌<◌, ◌≤◌, true, cond, ltb, ℤ, sym, ap, ◌∙◌, arith}
 use Rattle.std.proofs.lemmas.Bool.Decides.{nat_tests}
 use Rattle.picture.specs.Planes.{Grid}
 use Rattle.reference.specs.declared.computed.ComputedList.{ComputedList}

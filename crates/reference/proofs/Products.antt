@@ -1,5 +1,5 @@
 -- A byte times a position.
-use Rattle.std.proofs.Common.{◌≡◌, ℕ, suc, ◌*◌, ◌^◌, ◌<◌, ℤ, pos, negsuc, ◌+ℤ◌, ◌*ℤ◌, arith, w16, w32, SFits, to_z}
+use Rattle.std.proofs.Common.{◌≡◌, ℕ, suc, ◌^◌, ◌<◌, ℤ, pos, negsuc, ◌+ℤ◌, ◌*ℤ◌, arith, w16, w32, SFits, to_z}
 use Rattle.std.proofs.lemmas.Nat.{mul-le}
 use Rattle.std.proofs.lemmas.Int.{ints, to_z-of_z}
 use Rattle.reference.proofs.Rounding.{back}
@@ -21,7 +21,7 @@ pub record Summed (p q : ℤ) (c r : ℕ) : Type 0 where
   pub value : back (back (both p q +ℤ to_z w32 c) +ℤ to_z w32 r) ≡ p +ℤ q +ℤ pos c +ℤ pos r
 
 -- the sum of the drawn list's rule, each part read back from its bits
-pub summed : (p q : ℤ) (c r : ℕ) → Within 8388608 p → Within 8388608 q → c < 2 ^ 8 → r < 16 → Summed p q c r
+pub summed : (p q : ℤ) (c r : ℕ) → Within 8388608 p → Within 8388608 q → c < 2 ^ 8 → r < 2 ^ 8 → Summed p q c r
 summed p q c r h k lt few =
     let p' : SFits w32 p = omega (arith, ints) in
     let q' : SFits w32 q = omega (arith, ints) in

@@ -1,9 +1,8 @@
 -- Tap sums, rounding and clipping, as the code does them.
-use Rattle.std.proofs.Common.{◌≡◌, ℕ, ◌+◌, ◌-◌, ◌<◌, ◌≤◌, min, ℤ, pos, negsuc, ◌+ℤ◌, ◌-ℤ◌, ◌*ℤ◌, nat_abs, sym, refl, ap, ◌∙◌, arith, w32, SFits, to_z, of_z}
-use Rattle.std.specs.Int.{int_div_euclid, int_max, int_min}
-use Rattle.std.proofs.lemmas.Bool.Decides.{nat_tests}
+use Rattle.std.proofs.Common.{◌≡◌, ℤ, pos, negsuc, ◌+ℤ◌, ◌-ℤ◌, ◌*ℤ◌, nat_abs, refl, arith, w32, SFits, to_z, of_z}
+use Rattle.std.specs.Int.{int_max, int_min}
 use Rattle.std.proofs.lemmas.Int.{ints, clamps, to_z-of_z}
-use Rattle.reference.specs.Interpolation.{clip, rounded, rounded_twice, tap}
+use Rattle.reference.specs.Interpolation.{clip, tap}
 use Rattle.reference.specs.Bounds.{Within}
 
 pub clip_is : (z : ℤ) → nat_abs (int_max (pos 0) (int_min z (pos 255))) ≡ clip z

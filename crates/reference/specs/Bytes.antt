@@ -1,5 +1,5 @@
 -- Every sample is a byte.
-use Rattle.std.specs.Prelude.{◌≡◌, ℕ, zero, suc, ◌+◌, ◌*◌, ◌/◌, ◌<◌, ◌≤◌, Bool, true, false, cond, T, List, [], ◌∷◌, take, drop, ℤ, pos, negsuc, nat_lt, slice_index, refl}
+use Rattle.std.specs.Prelude.{◌≡◌, ℕ, zero, suc, ◌+◌, ◌*◌, ◌<◌, ◌≤◌, Bool, true, false, cond, T, List, [], ◌∷◌, take, drop, ℤ, pos, negsuc, nat_lt, slice_index, refl}
 use Rattle.std.proofs.Common.{sym, subst, lit<, ltb→lt, get_or-drop, arith}
 use Rattle.std.specs.List.{AllByRecursion}
 use Rattle.picture.specs.Planes.{Grid, grid, nearest}

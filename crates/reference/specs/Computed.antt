@@ -1,5 +1,5 @@
 -- What a computing list means.
-use Rattle.std.specs.Prelude.{◌≡◌, ℕ, ◌≤◌, cond, ℤ, nat_lt}
+use Rattle.std.specs.Prelude.{ℕ, cond, ℤ, nat_lt}
 use Rattle.std.proofs.Common.{ap}
 use Rattle.picture.specs.Planes.{Grid, grid}
 use Rattle.picture.specs.Pictures.{picture_of, area}

@@ -1,5 +1,5 @@
 -- What a drawn list means.
-use Rattle.std.specs.Prelude.{◌≡◌, ℕ, ◌<◌, ◌≤◌, cond, ℤ, pos, negsuc, ◌+ℤ◌, ◌*ℤ◌, nat_lt, unsigned_abs}
+use Rattle.std.specs.Prelude.{ℕ, ◌<◌, cond, ℤ, pos, negsuc, ◌+ℤ◌, ◌*ℤ◌, nat_lt, unsigned_abs}
 use Rattle.std.proofs.Common.{ap, arith}
 use Rattle.std.specs.Int.{int_rem_euclid}
 use Rattle.reference.specs.declared.drawn.DrawnList.{DrawnList}

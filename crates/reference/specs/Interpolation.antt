@@ -31,7 +31,7 @@ unfoldable pub middle : Grid → ℤ → ℤ → ℤ
 middle g x y =
     tap (across g x (y -ℤ pos 2)) (across g x (y -ℤ pos 1)) (across g x y) (across g x (y +ℤ pos 1)) (across g x (y +ℤ pos 2)) (across g x (y +ℤ pos 3))
 
--- floor((t + 16) / 32), clipped (`divEuclid` rounds down where the divisor is positive)
+-- floor((t + 16) / 32), clipped (`int_div_euclid` rounds down where the divisor is positive)
 unfoldable pub rounded : ℤ → ℕ
 rounded t = clip (int_div_euclid (t +ℤ pos 16) (pos 32))
 

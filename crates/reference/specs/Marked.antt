@@ -1,5 +1,5 @@
 -- Worked examples of interpolation: six samples in a line, and the samples in the gap after the third.
-use Rattle.std.specs.Prelude.{◌≡◌, ℕ, List, [], ◌∷◌, ℤ, pos, ◌+ℤ◌, slice_index, unsigned_abs}
+use Rattle.std.specs.Prelude.{◌≡◌, ℕ, List, [], ◌∷◌, pos, ◌+ℤ◌, slice_index, unsigned_abs}
 use Rattle.picture.specs.Planes.{Grid}
 use Rattle.reference.specs.Interpolation.{quarter}
 

@@ -1,5 +1,5 @@
 //! The computing list's samples and strips.
-ghost use Rattle.std.specs.Prelude.{◌≡◌, ℕ, ◌+◌, ◌*◌, ◌/◌, ◌%◌, ◌<◌, ◌≤◌, true, length, pos, ◌+ℤ◌, ◌≤ℤ◌, slice_index};
+ghost use Rattle.std.specs.Prelude.{◌≡◌, ℕ, ◌+◌, ◌*◌, ◌/◌, ◌%◌, ◌<◌, true, length, pos, ◌+ℤ◌, slice_index};
 ghost use Rattle.std.specs.Int.{int_div_euclid};
 ghost use Rattle.picture.specs.Planes.{grid_of};
 ghost use Rattle.reference.specs.Bounds.{Within};

@@ -1,5 +1,5 @@
 //! The drawn list behind the one interface; its strips are the trait's own.
-ghost use Rattle.std.specs.Prelude.{◌≡◌, ℕ, ◌<◌, ◌≤◌, pos, ◌*ℤ◌};
+ghost use Rattle.std.specs.Prelude.{◌≡◌, ◌<◌, pos, ◌*ℤ◌};
 ghost use Rattle.reference.specs.Bounds.{Within};
 ghost use Rattle.reference.specs.Drawn.{drawn, ruled};
 

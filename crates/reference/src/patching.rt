@@ -1,5 +1,5 @@
 //! Patches: reading one, and its tap sums.
-ghost use Rattle.std.specs.Prelude.{◌≡◌, ℕ, ◌+◌, ◌*◌, ◌/◌, ◌%◌, ◌<◌, ◌≤◌, pos, ◌-ℤ◌};
+ghost use Rattle.std.specs.Prelude.{◌≡◌, ◌+◌, ◌*◌, ◌/◌, ◌%◌, ◌<◌, ◌≤◌, pos, ◌-ℤ◌};
 ghost use Rattle.picture.specs.Planes.{grid_of};
 ghost use Rattle.reference.specs.Bounds.{Within};
 ghost use Rattle.reference.specs.Rows.{Rows};

@@ -1,5 +1,4 @@
 //! Vetting of a list that has no bytes.
-ghost use Rattle.std.specs.Prelude.{◌≡◌};
 ghost use Rattle.picture.specs.Faults.{Answers};
 ghost use Rattle.reference.specs.Vetting.{drawn_fault, DrawnIs};
 

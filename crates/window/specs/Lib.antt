@@ -5,4 +5,3 @@ pub mod Stages
 pub mod Lefts
 pub mod Handing
 pub mod Nearness
-pub mod QuarterStageLemmas

@@ -1,5 +1,5 @@
 -- How far the vectors of a window lie from (0, 0) and from the predicted vector.
-use Rattle.std.specs.Prelude.{◌≡◌, ℕ, ◌≤◌, Bool, true, false, leb, ℤ, pos, ◌+ℤ◌, ◌-ℤ◌, ◌*ℤ◌, nat_le, nat_lt, unsigned_abs, refl}
+use Rattle.std.specs.Prelude.{◌≡◌, ℕ, ◌<◌, ◌≤◌, Bool, true, false, leb, ℤ, pos, ◌+ℤ◌, ◌-ℤ◌, ◌*ℤ◌, nat_le, nat_lt, unsigned_abs, ◌==◌, refl}
 use Rattle.std.proofs.Common.{subst, arith}
 use Rattle.std.proofs.lemmas.Int.{ints}
 use Rattle.std.proofs.lemmas.Bool.{and_parts, leb-true}
@@ -86,3 +86,11 @@ inside_near w r v narrow central t = let a = inside_apart w r v t in (close v.x 
   where
     close : (z c : ℤ) (far : ℕ) → far ≤ 64 → unsigned_abs c ≤ 4352 → unsigned_abs (z -ℤ c) ≤ far → unsigned_abs z ≤ 4416
     close z c far le h g = omega (arith, ints)
+
+-- the number that was named is the picture's
+pub same_picture : (r p : ℕ) → (r == p) ≡ true → r ≡ p
+same_picture r p e = grind (arith, nat_tests)
+
+-- so it is below the number of pictures
+pub same_below : (r p n : ℕ) → r ≡ p → p < n → nat_lt r n ≡ true
+same_below r p n e h = grind (arith, nat_tests)

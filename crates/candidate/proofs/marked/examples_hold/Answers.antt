@@ -40,7 +40,7 @@ tested (e ∷ es) t =
 -- a code length, from the logarithm
 bits : (k log : ℕ) → 2 ^ log ≤ k + 1 → k + 1 < 2 ^ (log + 1) → pos (code_length k) ≡ pos (2 * log + 1)
 bits k log low high =
-    ap pos (sym (length_is k (2 * log + 1) (record { log = log; is-log = record { low = low; high = high }; is-length = refl })))
+    ap pos (sym (length_is k (2 * log + 1) (record { log = log; is_log = record { low = low; high = high }; is_length = refl })))
 
 in_gaps : AllByRecursion Holds gaps
 unfolding quarter cell across tap rounded

@@ -1,5 +1,5 @@
 -- The front of the array is the strip that the list wrote.
-use Rattle.std.proofs.Common.{◌≡◌, ℕ, ◌-◌, ◌*◌, length, take, drop, replicate, arith, length-take, rules}
+use Rattle.std.proofs.Common.{◌≡◌, ℕ, ◌-◌, ◌*◌, length, take, replicate, arith, length-take}
 use Rattle.std.proofs.lemmas.Int.{to_z-of_z}
 use Rattle.reference.proofs.Strips.{strip_size}
 use Rattle.candidate.proofs.Blocks.{front_is}

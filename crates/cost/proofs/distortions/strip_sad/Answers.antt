@@ -1,4 +1,4 @@
-use Rattle.std.proofs.Common.{◌≡◌, ◌+◌, ◌-◌, ◌*◌, length, ℤ, pos, ◌+ℤ◌, arith, w16, w32, SFits, rules}
+use Rattle.std.proofs.Common.{◌≡◌, ◌+◌, ◌-◌, ◌*◌, length, arith, w16, w32, SFits, rules}
 use Rattle.std.proofs.lemmas.Int.{to_z-of_z}
 use Rattle.picture.specs.Pictures.{whole_of}
 use Rattle.cost.proofs.Strips.{strip_end, block_part, picture_part, same_strips}

@@ -1,4 +1,4 @@
-use Rattle.std.proofs.Common.{◌≡◌, ◌*◌, length, drop, arith, length-drop, rules}
+use Rattle.std.proofs.Common.{length, rules}
 use Rattle.job.proofs.Rests.{rest_is}
 use Rattle.job.proofs.vetting.vet_pictures.Goals as goal
 

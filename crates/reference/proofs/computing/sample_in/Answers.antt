@@ -1,4 +1,4 @@
-use Rattle.std.proofs.Common.{◌∙◌, lit<, lit≤, w32, SFits, rules}
+use Rattle.std.proofs.Common.{lit<, lit≤, w32, SFits, rules}
 use Rattle.std.proofs.lemmas.Int.{to_z-of_z}
 use Rattle.picture.specs.Planes.{grid_of}
 use Rattle.reference.proofs.Cells.{from_patch, nowhere}

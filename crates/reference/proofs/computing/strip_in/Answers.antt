@@ -1,5 +1,5 @@
-use Rattle.std.proofs.Common.{◌≡◌, ◌*◌, ◌/◌, length, ◌∙◌, arith, w32, SFits, rules}
-use Rattle.std.proofs.lemmas.Int.{ints, to_z-of_z}
+use Rattle.std.proofs.Common.{◌/◌, length, arith, w32, SFits, rules}
+use Rattle.std.proofs.lemmas.Int.{to_z-of_z}
 use Rattle.picture.specs.Planes.{grid_of}
 use Rattle.reference.proofs.Cells.{from_patch, from_rows}
 use Rattle.reference.proofs.Strips.{strip_size, strip_rows}

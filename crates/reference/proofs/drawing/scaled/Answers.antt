@@ -1,6 +1,5 @@
-use Rattle.std.proofs.Common.{◌≡◌, ℤ, pos, ◌*ℤ◌, refl, arith, w16, w32, SFits}
+use Rattle.std.proofs.Common.{pos, ◌*ℤ◌, refl, arith, w32, SFits}
 use Rattle.std.proofs.lemmas.Int.{ints, to_z-of_z}
-use Rattle.reference.specs.Bounds.{Within}
 use Rattle.reference.proofs.Products.{scaled_small, widened}
 use Rattle.reference.proofs.drawing.scaled.Goals as goal
 

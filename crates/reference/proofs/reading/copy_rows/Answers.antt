@@ -1,4 +1,4 @@
-use Rattle.std.proofs.Common.{◌≡◌, ℕ, ◌+◌, ◌-◌, ◌*◌, ◌/◌, ◌<◌, ◌≤◌, length, get_or, pos, refl, ap, ◌∙◌, arith}
+use Rattle.std.proofs.Common.{◌≡◌, ℕ, ◌+◌, ◌-◌, ◌*◌, ◌/◌, ◌≤◌, length, get_or, pos, refl, ap, ◌∙◌, arith}
 use Rattle.picture.specs.Planes.{grid_of}
 use Rattle.picture.specs.Planes.{grid_sample}
 use Rattle.reference.proofs.Copies.{row_cut, row_more, row_end, cut_end}

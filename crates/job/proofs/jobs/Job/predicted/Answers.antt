@@ -1,4 +1,4 @@
-use Rattle.std.proofs.Common.{◌+◌, ◌≤◌, length, arith, rules}
+use Rattle.std.proofs.Common.{arith, rules}
 use Rattle.job.proofs.Placing.{counts, words_part}
 use Rattle.job.proofs.jobs.Job.predicted.Goals as goal
 

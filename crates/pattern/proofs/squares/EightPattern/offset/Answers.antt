@@ -5,7 +5,7 @@ use Rattle.pattern.specs.declared.squares.Eight.{Eight}
 use Rattle.pattern.specs.declared.squares.Eight.TheVariants.{One, Two}
 use Rattle.pattern.specs.Offsets.{still, times, Within}
 use Rattle.pattern.specs.Patterns.{eight, distance_of}
-use Rattle.pattern.specs.Shorts.{each_within, get_d_times}
+use Rattle.pattern.specs.Shorts.{each_within, get_or_times}
 use Rattle.pattern.proofs.squares.EightPattern.offset.Goals as goal
 
 stretches : (e : Eight) → map (times (distance_of e)) (eight 1) ≡ eight (distance_of e)
@@ -15,7 +15,7 @@ stretches Two = refl
 
 eight_point : (e : Eight) (i d : ℕ) (table : List Vector) (o : Vector) → d ≡ distance_of e → table ≡ eight 1 → o ≡ get_or table i still → times d o ≡ get_or (eight (distance_of e)) i still
 eight_point e i d table o de te oe =
-    rw (oe, te, de) (sym (get_d_times (distance_of e) (eight 1) i) ∙ ap (λ os. get_or os i still) (stretches e))
+    rw (oe, te, de) (sym (get_or_times (distance_of e) (eight 1) i) ∙ ap (λ os. get_or os i still) (stretches e))
 
 eight_near : (e : Eight) (i : ℕ) → Within 4355 (get_or (eight (distance_of e)) i still)
 unfolding eight

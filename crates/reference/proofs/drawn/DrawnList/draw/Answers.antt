@@ -1,6 +1,6 @@
-use Rattle.std.proofs.Common.{◌≡◌, ◌^◌, ◌<◌, ℤ, pos, ◌+ℤ◌, nat_abs, ap, ◌∙◌, arith, w16, w32, SFits, rules}
+use Rattle.std.proofs.Common.{◌^◌, ◌<◌, pos, nat_abs, ap, ◌∙◌, arith, w32, SFits, rules}
 use Rattle.std.specs.Int.{int_rem_euclid}
-use Rattle.std.proofs.lemmas.Int.{ints, to_z-of_z}
+use Rattle.std.proofs.lemmas.Int.{to_z-of_z}
 use Rattle.reference.proofs.Products.{summed}
 use Rattle.reference.proofs.drawn.DrawnList.draw.Goals as goal
 
@@ -12,7 +12,7 @@ overflow_add-sum-2 c =
 pub overflow_add-sum-3 : goal.overflow_add-sum-3
 overflow_add-sum-3 c =
     let f : c.args.self.now.c < 2 ^ 8 = search rules in
-    (summed c.scaled-across.result c.scaled-down.result c.args.self.now.c c.args.picture c.scaled-across.ensures.small c.scaled-down.ensures.small f (omega arith)).three
+    (summed c.scaled-across.result c.scaled-down.result c.args.self.now.c _ c.scaled-across.ensures.small c.scaled-down.ensures.small f (omega arith)).three
 
 pub returns : goal.returns
 returns c =

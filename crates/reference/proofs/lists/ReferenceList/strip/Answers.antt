@@ -1,4 +1,4 @@
-use Rattle.std.proofs.Common.{◌≡◌, ℕ, ◌*◌, ◌/◌, ◌%◌, ◌<◌, ◌≤◌, length, arith, w16, SFits, rules, below_none}
+use Rattle.std.proofs.Common.{◌≡◌, ◌/◌, ◌<◌, length, arith, w16, SFits, rules, below_none}
 use Rattle.std.proofs.lemmas.Nat.{div_below}
 use Rattle.std.proofs.lemmas.Int.{ints, to_z-of_z}
 use Rattle.reference.specs.Lists.{strip_at}

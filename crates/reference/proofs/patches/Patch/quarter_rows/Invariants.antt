@@ -1,6 +1,6 @@
 use Rattle.std.proofs.Common.{length}
 use Rattle.picture.proofs.Filled.{Filled}
-use Rattle.reference.specs.Patches.{RowSums, placed_row}
+use Rattle.reference.specs.Patches.{placed_row}
 use Rattle.reference.proofs.patches.Patch.quarter_rows.Given as goal
 
 abbrev pub invariant-loop-k : goal.invariant-loop-k
