@@ -1,6 +1,6 @@
 -- Four numbers and matrices transformed: what the butterflies give, and how large it grows.
 use Rattle.std.specs.Prelude.{◌≡◌, ℕ, ◌+◌, ◌*◌, ◌/◌, ℤ, ◌+ℤ◌, ◌-ℤ◌}
-use Rattle.std.proofs.Common.{sym, ◌∙◌, ap, subst, zero-add, arith}
+use Rattle.std.proofs.Common.{sym, ap, zero-add, arith}
 use Rattle.std.proofs.lemmas.Int.{ints}
 use Rattle.measure.specs.Transforms.{satd4}
 use Rattle.measure.specs.Fours.{entries, Within, AllWithin, turned, turned_rows, flipped, size_of}
@@ -19,27 +19,17 @@ turns x fs fd bs bd a b c d e1 e2 e3 e4 e5 e6 e7 e8 =
 turned_within : (m : ℕ) (x : Four) → Within m x → Within (4 * m) (turned x)
 turned_within m x h = (omega (arith, ints), omega (arith, ints), omega (arith, ints), omega (arith, ints))
 
-rows_within : (m : ℕ) (x : Matrix) → AllWithin m x → AllWithin (4 * m) (turned_rows x)
+pub rows_within : (m : ℕ) (x : Matrix) → AllWithin m x → AllWithin (4 * m) (turned_rows x)
 rows_within m x h =
     (turned_within m x.a h.0, (turned_within m x.b h.1.0, (turned_within m x.c h.1.1.0, turned_within m x.d h.1.1.1)))
 
-flipped_within : (m : ℕ) (x : Matrix) → AllWithin m x → AllWithin m (flipped x)
+pub flipped_within : (m : ℕ) (x : Matrix) → AllWithin m x → AllWithin m (flipped x)
 flipped_within m x h =
     let p = h.0 in
     let q = h.1.0 in
     let r = h.1.1.0 in
     let s = h.1.1.1 in
     ((p.0, q.0, r.0, s.0), ((p.1, q.1, r.1, s.1), ((p.2, q.2, r.2, s.2), (p.3, q.3, r.3, s.3))))
-
--- along the rows, and turned on its side
-pub mid_within : (x y z : Matrix) → y ≡ turned_rows x → z ≡ flipped y → AllWithin 255 x → AllWithin 1020 z
-mid_within x y z e f h =
-    subst (AllWithin 1020) (sym (f ∙ ap flipped e)) (flipped_within 1020 (turned_rows x) (rows_within 255 x h))
-
--- and along the columns
-pub end_within : (x y z t : Matrix) → y ≡ turned_rows x → z ≡ flipped y → t ≡ turned_rows z → AllWithin 255 x → AllWithin 4080 t
-end_within x y z t e f g h =
-    subst (AllWithin 4080) (sym g) (rows_within 1020 z (mid_within x y z e f h))
 
 -- a matrix transformed both ways, as the program does it: the result's rows are the columns of K D Kᵀ
 abbrev pub done : Matrix → Matrix

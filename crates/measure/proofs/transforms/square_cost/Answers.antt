@@ -3,27 +3,27 @@ use Rattle.std.proofs.Common.{◌≡◌, ◌+◌, ◌*◌, ◌/◌, ap, ◌∙�
 use Rattle.measure.specs.Transforms.{satd4}
 use Rattle.measure.specs.Fours.{entries}
 use Rattle.measure.proofs.Halves.{exact}
-use Rattle.measure.specs.Turning.{mid_within, end_within}
+use Rattle.measure.proofs.Steps.{near_steps}
+use Rattle.measure.specs.Fours.{AllWithin}
 use Rattle.measure.proofs.transforms.square_cost.Goals as goal
 
+pub transform_rows-requires : goal.transform_rows-requires
+transform_rows-requires c = search (rules, near_steps)
+
 pub transform_rows-t-requires : goal.transform_rows-t-requires
-transform_rows-t-requires c = mid_within c.args.x _ _ c.transform_rows.ensures c.flip.ensures c.requires
+transform_rows-t-requires c = search (rules, near_steps)
 
 pub four_size-requires : goal.four_size-requires
-four_size-requires c =
-    (end_within c.args.x _ _ _ c.transform_rows.ensures c.flip.ensures c.transform_rows-t.ensures c.requires).0
+four_size-requires c = let h : AllWithin 4080 c.transform_rows-t.result = search (rules, near_steps) in h.0
 
 pub four_size-requires-2 : goal.four_size-requires-2
-four_size-requires-2 c =
-    (end_within c.args.x _ _ _ c.transform_rows.ensures c.flip.ensures c.transform_rows-t.ensures c.requires).1.0
+four_size-requires-2 c = let h : AllWithin 4080 c.transform_rows-t.result = search (rules, near_steps) in h.1.0
 
 pub four_size-requires-3 : goal.four_size-requires-3
-four_size-requires-3 c =
-    (end_within c.args.x _ _ _ c.transform_rows.ensures c.flip.ensures c.transform_rows-t.ensures c.requires).1.1.0
+four_size-requires-3 c = let h : AllWithin 4080 c.transform_rows-t.result = search (rules, near_steps) in h.1.1.0
 
 pub four_size-requires-4 : goal.four_size-requires-4
-four_size-requires-4 c =
-    (end_within c.args.x _ _ _ c.transform_rows.ensures c.flip.ensures c.transform_rows-t.ensures c.requires).1.1.1
+four_size-requires-4 c = let h : AllWithin 4080 c.transform_rows-t.result = search (rules, near_steps) in h.1.1.1
 
 pub returns : goal.returns
 returns c =
