@@ -246,10 +246,13 @@ def jobs_in_pieces():
     yield "too long by its last piece", too_long, (longest, b"\0")
 
 
-def run(program, pieces):
-    """Standard output and exit status of the program on a job in pieces."""
-    process = subprocess.Popen([program], stdin=subprocess.PIPE, stdout=subprocess.PIPE,
-                               stderr=subprocess.DEVNULL)
+def run(program, pieces, words=()):
+    """Standard output, exit status and standard error of the program on a job in pieces.
+
+    The words are its arguments.
+    """
+    process = subprocess.Popen([program, *words], stdin=subprocess.PIPE, stdout=subprocess.PIPE,
+                               stderr=subprocess.PIPE)
     try:
         for piece in pieces[:-1]:
             process.stdin.write(piece)
@@ -258,18 +261,18 @@ def run(program, pieces):
     except BrokenPipeError:
         pass  # it has ended early; what it printed is compared all the same
     try:
-        output, _ = process.communicate(pieces[-1], timeout=20)
-        return output, process.returncode
+        output, told = process.communicate(pieces[-1], timeout=20)
+        return output, process.returncode, told
     except subprocess.TimeoutExpired:
         process.kill()
-        output, _ = process.communicate()
-        return output, "none after 20 seconds"
+        output, told = process.communicate()
+        return output, "none after 20 seconds", told
 
 
 def agrees(program, label, job, pieces):
     """Compares one run with the model; prints the difference."""
     expected = model.price(job).encode()
-    found, status = run(program, pieces)
+    found, status, _ = run(program, pieces)
     if (found, status) == (expected, 0):
         return True
     print(f"{label}, a job of {len(job)} bytes")

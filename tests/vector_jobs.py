@@ -7,9 +7,7 @@ vector; where that has no price, one line on standard error says why.
 """
 import itertools
 import random
-import subprocess
 import sys
-import time
 
 sys.dont_write_bytecode = True
 import model  # noqa: E402
@@ -27,14 +25,16 @@ def named_vectors():
         pred = [(rng.randint(-300, 300), rng.randint(-300, 300)) for _ in range(n)]
         job = price_jobs.make(
             width=width, height=height, n=n, m=1, bw=bw, bh=bh,
-            left=price_jobs.random_place(rng, bw, width), top=price_jobs.random_place(rng, bh, height),
+            left=price_jobs.random_place(rng, bw, width),
+            top=price_jobs.random_place(rng, bh, height),
             qp=(7 * i) % 52, pred=pred, samples=price_jobs.random_planes(rng, width, height, n + 1))
         r = rng.randrange(n)
         reach = rng.choice((1, 3, 20, 261))
         x, y = (p + rng.randint(-reach, reach) for p in pred[r])
         yield f"named {i}", job, (r, x, y)
     for x, y in ((261, 0), (-261, 261), (262, 0), (0, -262), (0, 262)):
-        yield f"difference {x},{y}", price_jobs.make(pred=[(0, 0), (100, -100)]), (1, 100 + x, y - 100)
+        job = price_jobs.make(pred=[(0, 0), (100, -100)])
+        yield f"difference {x},{y}", job, (1, 100 + x, y - 100)
     far = price_jobs.make(n=1, m=0, pred=[(-4096, 4096)])
     yield "far out", far, (0, -4357, 4357)
     yield "too far out", far, (0, -4358, 4357)
@@ -52,31 +52,11 @@ def bad_arguments():
             ["0", "70000", "0"], ["0", "9999999999999999999999", "0"])
 
 
-def run(program, pieces, words=()):
-    """Standard output, exit status and standard error of the program on a job in pieces."""
-    process = subprocess.Popen([program, *words], stdin=subprocess.PIPE, stdout=subprocess.PIPE,
-                               stderr=subprocess.PIPE)
-    try:
-        for piece in pieces[:-1]:
-            process.stdin.write(piece)
-            process.stdin.flush()
-            time.sleep(0.05)
-    except BrokenPipeError:
-        pass  # it has ended early; what it printed is compared all the same
-    try:
-        output, told = process.communicate(pieces[-1], timeout=20)
-        return output, process.returncode, told
-    except subprocess.TimeoutExpired:
-        process.kill()
-        output, told = process.communicate()
-        return output, "none after 20 seconds", told
-
-
 def agrees(program, label, job, pieces, named=None):
     """Compares one run with the model; prints the difference."""
     output, wanted = vector_model.price(job, named)
     words = [str(word) for word in named or ()]
-    found, status, told = run(program, pieces, words)
+    found, status, told = price_jobs.run(program, pieces, words)
     if (found, status, told.count(b"\n")) == (output.encode(), wanted, wanted):
         return True
     print(f"{label}, a job of {len(job)} bytes")
@@ -87,7 +67,7 @@ def agrees(program, label, job, pieces, named=None):
 
 def refuses(program, words):
     """Whether bad arguments end with status 1 and one line on standard error."""
-    found, status, told = run(program, (price_jobs.make(),), words)
+    found, status, told = price_jobs.run(program, (price_jobs.make(),), words)
     if (found, status, told.count(b"\n")) == (b"", 1, 1):
         return True
     print(f"arguments {words}: {found!r}, exit status {status}, standard error {told!r}")
@@ -100,7 +80,8 @@ def main():
     program = sys.argv[1]
     whole = ((label, job, (job,)) for label, job in price_jobs.all_jobs())
     named = ((label, job, (job,), vector) for label, job, vector in named_vectors())
-    results = [agrees(program, *entry) for entry in itertools.chain(whole, price_jobs.jobs_in_pieces(), named)]
+    jobs = itertools.chain(whole, price_jobs.jobs_in_pieces(), named)
+    results = [agrees(program, *entry) for entry in jobs]
     results += [refuses(program, words) for words in bad_arguments()]
     passed = results.count(True)
     failed = results.count(False)

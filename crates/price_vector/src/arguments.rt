@@ -1,6 +1,6 @@
 //! The vector that the arguments name.
-ghost use Rattle.std.specs.Prelude.{◌≡◌};
-ghost use Rattle.price_vector.specs.Arguments.{named_component};
+ghost use Rattle.std.specs.Prelude.{◌≡◌, IfOk};
+ghost use Rattle.price_vector.specs.Arguments.{named_component, IsNamed, IsNamedComponent};
 
 use anyhow::anyhow;
 use candidate::Candidate;
@@ -17,7 +17,9 @@ pub(crate) fn component(z: i64) -> Option<i16>
 }
 
 /// The component that a word names.
-fn read_component(word: &str) -> anyhow::Result<i16> {
+fn read_component(word: &str) -> anyhow::Result<i16>
+    ensures { IfOk result (IsNamedComponent word.now) }
+{
     let Ok(z) = word.parse::<i64>() else {
         return Err(anyhow!(
             "X and Y are whole numbers of quarter samples: try price_vector --help"
@@ -30,7 +32,9 @@ fn read_component(word: &str) -> anyhow::Result<i16> {
 }
 
 /// The candidate that three words name.
-pub(crate) fn read_candidate(picture: &str, x: &str, y: &str) -> anyhow::Result<Candidate> {
+pub(crate) fn read_candidate(picture: &str, x: &str, y: &str) -> anyhow::Result<Candidate>
+    ensures { IfOk result (IsNamed picture.now x.now y.now) }
+{
     let Ok(picture) = picture.parse::<usize>() else {
         return Err(anyhow!("PICTURE is a picture number, from 0 on: try price_vector --help"));
     };
