@@ -16,6 +16,10 @@ is_place span size (negsuc z) = false
 abbrev pub place_rule : ℕ → ℕ → ℤ → Rule
 place_rule span size z = record { applies = not (is_place span size z); gives = fault rows.BlockPlace layers.Block z }
 
+-- the fault of one of the two
+abbrev pub start_fault : ℕ → ℕ → ℤ → Option Fault
+start_fault span size z = first (place_rule span size z ∷ [])
+
 -- the fault of the place of a block of w by h samples: the column before the row
 abbrev pub place_fault : ℕ → ℕ → PictureSize → ℤ → ℤ → Option Fault
 place_fault w h size left top = first (place_rule w size.width left ∷ place_rule h size.height top ∷ [])

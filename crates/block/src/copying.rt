@@ -10,17 +10,18 @@ use crate::places::{BlockRequest, Place, vet_place};
 use crate::shapes::Shape;
 use picture::{Fault, Plane};
 
-/// The samples of a block.
+/// The samples of a block, with zeros after them.
 fn copied(current: &Plane<'_>, shape: Shape, place: Place) -> [u8; 256]
     requires { (place.left ≤ 1920) × (place.top ≤ 1920) }
     ensures { (k : ℕ) → k < shape_width shape * shape_height shape → slice_index result k ≡ block_sample (grid_of current.now) place.left place.top (shape_width shape) k }
 {
     let width = shape.width();
-    let mut samples = [0u8; 256];
-    for k in 0..shape.area() {
-        let column = place.left + k % width;
-        let row = place.top + k / width;
-        samples[k] = current.whole(column as i32, row as i32);
+    let mut samples = [0; 256];
+    for (k, sample) in samples[..shape.area()].iter_mut().enumerate() {
+        *sample = current.whole(
+            (place.left + k % width) as i32,
+            (place.top + k / width) as i32,
+        );
     }
     samples
 }
@@ -30,7 +31,7 @@ impl Block {
     pub fn new(current: &Plane<'_>, request: BlockRequest) -> Result<Block, Fault>
         ensures { Answers result (block_fault current.now.size request) (BlockIs (grid_of current.now) request) }
     {
-        let shape = Shape::new(request.width, request.height)?;
+        let shape = Shape::try_from((request.width, request.height))?;
         let place = vet_place(shape, current.size, request.left, request.top)?;
         Ok(Block {
             shape,

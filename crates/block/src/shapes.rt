@@ -17,12 +17,14 @@ pub enum Shape {
     B4x4,
 }
 
-impl Shape {
-    /// Vets a width and a height: the shape that has them.
-    pub fn new(width: i64, height: i64) -> Result<Shape, Fault>
-        ensures { Answers result (shape_fault width height) (ShapeIs width height) }
-    {
-        match (width, height) {
+/// Vets a width and a height: the shape that has them.
+impl TryFrom<(i64, i64)> for Shape {
+    type Error = Fault;
+
+    ghost try_from_gives = { λ asked answer. Answers answer (shape_fault asked.0 asked.1) (ShapeIs asked.0 asked.1) };
+
+    fn try_from(asked: (i64, i64)) -> Result<Shape, Fault> {
+        match asked {
             (16, 16) => Ok(Shape::B16x16),
             (16, 8) => Ok(Shape::B16x8),
             (8, 16) => Ok(Shape::B8x16),
@@ -30,14 +32,16 @@ impl Shape {
             (8, 4) => Ok(Shape::B8x4),
             (4, 8) => Ok(Shape::B4x8),
             (4, 4) => Ok(Shape::B4x4),
-            _ => Err(Fault {
+            (width, _) => Err(Fault {
                 row: Row::BlockShape,
                 layer: Layer::Block,
                 value: width,
             }),
         }
     }
+}
 
+impl Shape {
     /// The width in samples.
     pub fn width(self) -> usize
         ensures value { result ≡ shape_width self }
@@ -67,12 +71,6 @@ impl Shape {
         ensures value { result ≡ shape_width self * shape_height self }
         ensures bound { result ≤ 256 }
     {
-        match self {
-            Shape::B16x16 => 256,
-            Shape::B16x8 | Shape::B8x16 => 128,
-            Shape::B8x8 => 64,
-            Shape::B8x4 | Shape::B4x8 => 32,
-            Shape::B4x4 => 16,
-        }
+        self.width() * self.height()
     }
 }

@@ -1,2 +1,1 @@
-mod Areas
 pub mod Filled

@@ -1,5 +1,5 @@
 -- Faults: the numbers printed, which fault is given where several apply, and what an answer says of it.
-use Rattle.std.specs.Prelude.{◌≡◌, ℕ, Bool, cond, List, [], ◌∷◌, ℤ, Some, None, Ok, Err, Option, Result}
+use Rattle.std.specs.Prelude.{◌≡◌, ℕ, Bool, cond, not, List, [], ◌∷◌, ℤ, Some, None, Ok, Err, Option, Result}
 use Rattle.picture.specs.declared.faults.Row.{Row}
 use Rattle.picture.specs.declared.faults.Row.TheVariants as rows
 use Rattle.picture.specs.declared.faults.Layer.{Layer}
@@ -43,6 +43,10 @@ pub record Rule : Type 0 where
 abbrev pub first : List Rule → Option Fault
 first [] = None
 first (r ∷ rs) = cond r.applies (Some r.gives) (first rs)
+
+-- the fault given unless a rule is kept
+abbrev pub unless : Bool → Row → Layer → ℤ → Option Fault
+unless kept r l v = first (record { applies = not kept; gives = fault r l v } ∷ [])
 
 -- the first of two faults that is there
 abbrev pub earlier : Option Fault → Option Fault → Option Fault

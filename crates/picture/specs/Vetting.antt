@@ -24,6 +24,14 @@ count_rule n = record { applies = not (is_count n); gives = fault rows.PictureCo
 abbrev pub bytes_rule : Layer → ℕ → ℕ → Rule
 bytes_rule layer stated found = record { applies = not (found == stated); gives = fault rows.ByteLength layer (pos found) }
 
+-- the fault of one of the two
+abbrev pub side_fault : Layer → ℤ → Option Fault
+side_fault layer n = first (width_rule layer n ∷ [])
+
+-- the fault of a number of bytes
+abbrev pub bytes_fault : Layer → ℕ → ℕ → Option Fault
+bytes_fault layer stated found = first (bytes_rule layer stated found ∷ [])
+
 abbrev pub size_fault : Layer → ℤ → ℤ → Option Fault
 size_fault layer w h = first (width_rule layer w ∷ height_rule layer h ∷ [])
 

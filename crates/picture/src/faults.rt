@@ -1,6 +1,6 @@
 //! Faults: which rule a call met, in which layer, and the value found.
-ghost use Rattle.std.specs.Prelude.{◌≡◌};
-ghost use Rattle.picture.specs.Faults.{row_number, layer_number};
+ghost use Rattle.std.specs.Prelude.{◌≡◌, true};
+ghost use Rattle.picture.specs.Faults.{Answers, unless, row_number, layer_number};
 
 /// The rule that turned a call away. Where several apply, the one listed first is given.
 #[derive(Clone, Copy, PartialEq, Eq, Debug)]
@@ -39,20 +39,33 @@ pub struct Fault {
     pub value: i64,
 }
 
-impl Row {
-    /// The number printed for the row.
-    pub fn number(self) -> u8
-        ensures { result ≡ row_number self }
+impl Fault {
+    /// Refuses with this fault unless the rule is kept.
+    pub fn unless(kept: bool, row: Row, layer: Layer, value: i64) -> Result<(), Fault>
+        ensures { Answers result (unless kept row layer value) (λ _. kept ≡ true) }
     {
-        self as u8
+        if kept {
+            Ok(())
+        } else {
+            Err(Fault { row, layer, value })
+        }
     }
 }
 
-impl Layer {
-    /// The number printed for the layer.
-    pub fn number(self) -> u8
-        ensures { result ≡ layer_number self }
-    {
-        self as u8
+/// The number printed for the row.
+impl From<Row> for u8 {
+    ghost from_gives = { λ row n. n ≡ row_number row };
+
+    fn from(row: Row) -> u8 {
+        row as u8
+    }
+}
+
+/// The number printed for the layer.
+impl From<Layer> for u8 {
+    ghost from_gives = { λ layer n. n ≡ layer_number layer };
+
+    fn from(layer: Layer) -> u8 {
+        layer as u8
     }
 }

@@ -1,5 +1,5 @@
 //! One picture of a reference list, and its whole samples.
-ghost use Rattle.std.specs.Prelude.{◌≡◌, ◌<◌};
+ghost use Rattle.std.specs.Prelude.{◌≡◌, ◌<◌, ◌≤◌, MatchOption};
 ghost use Rattle.picture.specs.Pictures.{picture_of, whole_of};
 
 use crate::pictures::ReferencePictures;
@@ -12,19 +12,26 @@ impl<'a> ReferencePictures<'a> {
         ensures size { result.size ≡ self.now.size.picture }
         ensures samples { result.samples.now ≡ picture_of self.now picture }
     {
-        let bytes = self.size.picture.height * self.size.picture.width;
+        let bytes = self.size.picture.area();
         let from = picture * bytes;
         Plane::new(self.size.picture, &self.samples[from..from + bytes])
+    }
+
+    /// The picture of a number; nothing for one that the list has not.
+    pub fn get(&self, picture: usize) -> Option<Plane<'a>>
+        ensures { MatchOption result (self.now.size.pictures ≤ picture) (λ plane. (picture < self.now.size.pictures) × (plane.size ≡ self.now.size.picture) × (plane.samples.now ≡ picture_of self.now picture)) }
+    {
+        if picture < self.size.pictures {
+            Some(self.plane(picture))
+        } else {
+            None
+        }
     }
 
     /// The whole sample of column `x`, row `y` of a picture, clamped; 0 in a picture that there is not.
     pub fn whole(&self, picture: usize, x: i32, y: i32) -> u8
         ensures { result ≡ whole_of self.now picture x y }
     {
-        if picture < self.size.pictures {
-            self.plane(picture).whole(x, y)
-        } else {
-            0
-        }
+        self.get(picture).map_or(0, |plane| plane.whole(x, y))
     }
 }

@@ -1,7 +1,6 @@
 //! The pictures of a reference list over the caller's bytes.
 ghost use Rattle.std.specs.Prelude.{◌≡◌, ℕ, ◌*◌, ◌<◌, length, slice_index};
 
-use crate::planes::known_bytes;
 use crate::sizes::ListSize;
 
 /// 1 to 16 pictures of one size, back to back, numbered from 0.
@@ -20,7 +19,6 @@ impl<'a> ReferencePictures<'a> {
         ensures size { result.size ≡ size }
         ensures samples { result.samples.now ≡ samples.now }
     {
-        let _known = known_bytes(samples);
         ReferencePictures { size, samples }
     }
 }

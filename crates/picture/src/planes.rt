@@ -12,15 +12,6 @@ pub struct Plane<'a> {
     ghost bytes: { (k : ℕ) → slice_index samples.now k < 256 },
 }
 
-/// Reads one sample; that tells a proof that all of them are bytes.
-pub(crate) fn known_bytes(samples: &[u8]) -> u8
-    requires { 0 < length samples.now }
-    ensures value { result ≡ slice_index samples.now 0 }
-    ensures bytes { (k : ℕ) → slice_index samples.now k < 256 }
-{
-    samples[0]
-}
-
 impl<'a> Plane<'a> {
     /// The picture of a vetted size over its bytes.
     pub fn new(size: PictureSize, samples: &'a [u8]) -> Self
@@ -28,7 +19,6 @@ impl<'a> Plane<'a> {
         ensures size { result.size ≡ size }
         ensures samples { result.samples.now ≡ samples.now }
     {
-        let _known = known_bytes(samples);
         Plane { size, samples }
     }
 }

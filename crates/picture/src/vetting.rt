@@ -1,8 +1,9 @@
 //! Vetting of pictures and lists, before a plane or a list is made over their bytes.
-ghost use Rattle.std.specs.Prelude.{◌≡◌, ◌*◌, length};
-ghost use Rattle.picture.specs.Faults.{Answers};
-ghost use Rattle.picture.specs.Sizes.{is_size};
-ghost use Rattle.picture.specs.Vetting.{size_fault, count_fault, picture_fault, list_fault, SizeIs, CountIs, PictureIs, ListIs};
+ghost use Rattle.std.specs.Prelude.{◌≡◌, ◌*◌, length, pos, true};
+ghost use Rattle.picture.specs.Faults.{Answers, unless};
+ghost use Rattle.picture.specs.Faults.{first};
+ghost use Rattle.picture.specs.Sizes.{Size, is_size};
+ghost use Rattle.picture.specs.Vetting.{size_fault, side_fault, bytes_fault, count_fault, picture_fault, list_fault, SizeIs, CountIs, PictureIs, ListIs};
 
 use crate::faults::{Fault, Layer, Row};
 use crate::sizes::{ListSize, PictureSize};
@@ -11,45 +12,41 @@ use crate::sizes::{ListSize, PictureSize};
 fn is_size(n: i64) -> bool
     ensures { result ≡ is_size n }
 {
-    n >= 16 && n <= 1920 && n % 16 == 0
+    (16..=1920).contains(&n) && n % 16 == 0
+}
+
+/// Vets a width or a height.
+fn vet_side(layer: Layer, side: i64) -> Result<usize, Fault>
+    ensures { Answers result (side_fault layer side) (λ n. (pos n ≡ side) × Size n) }
+{
+    Fault::unless(is_size(side), Row::PictureSize, layer, side)?;
+    Ok(side as usize)
 }
 
 /// Vets a width and a height.
 pub fn vet_size(layer: Layer, width: i64, height: i64) -> Result<PictureSize, Fault>
     ensures { Answers result (size_fault layer width height) (SizeIs width height) }
 {
-    if !is_size(width) {
-        return Err(Fault {
-            row: Row::PictureSize,
-            layer,
-            value: width,
-        });
-    }
-    if !is_size(height) {
-        return Err(Fault {
-            row: Row::PictureSize,
-            layer,
-            value: height,
-        });
-    }
-    Ok(PictureSize {
-        width: width as usize,
-        height: height as usize,
-    })
+    let width = vet_side(layer, width)?;
+    let height = vet_side(layer, height)?;
+    Ok(PictureSize { width, height })
 }
 
 /// Vets the number of pictures of a list.
 pub fn vet_count(pictures: i64) -> Result<usize, Fault>
     ensures { Answers result (count_fault pictures) (CountIs pictures) }
 {
-    if pictures < 1 || pictures > 16 {
-        return Err(Fault {
-            row: Row::PictureCount,
-            layer: Layer::ReferenceList,
-            value: pictures,
-        });
-    }
+    let listed = (1..=16).contains(&pictures);
+    Fault::unless(listed, Row::PictureCount, Layer::ReferenceList, pictures)?;
     Ok(pictures as usize)
+}
+
+/// Vets the number of bytes against the one stated.
+pub fn vet_bytes(layer: Layer, stated: usize, bytes: &[u8]) -> Result<(), Fault>
+    ensures { Answers result (bytes_fault layer stated (length bytes.now)) (λ _. length bytes.now ≡ stated) }
+{
+    let found = bytes.len();
+    Fault::unless(found == stated, Row::ByteLength, layer, found as i64)
 }
 
 /// Vets a current picture: its size, then the number of its bytes.
@@ -57,13 +54,7 @@ pub fn vet_picture(width: i64, height: i64, samples: &[u8]) -> Result<PictureSiz
     ensures { Answers result (picture_fault width height (length samples.now)) (PictureIs width height (length samples.now)) }
 {
     let size = vet_size(Layer::CurrentPicture, width, height)?;
-    if samples.len() != size.height * size.width {
-        return Err(Fault {
-            row: Row::ByteLength,
-            layer: Layer::CurrentPicture,
-            value: samples.len() as i64,
-        });
-    }
+    vet_bytes(Layer::CurrentPicture, size.area(), samples)?;
     Ok(size)
 }
 
@@ -73,12 +64,7 @@ pub fn vet_list(pictures: i64, width: i64, height: i64, samples: &[u8]) -> Resul
 {
     let picture = vet_size(Layer::ReferenceList, width, height)?;
     let pictures = vet_count(pictures)?;
-    if samples.len() != pictures * (picture.height * picture.width) {
-        return Err(Fault {
-            row: Row::ByteLength,
-            layer: Layer::ReferenceList,
-            value: samples.len() as i64,
-        });
-    }
-    Ok(ListSize { picture, pictures })
+    let size = ListSize { picture, pictures };
+    vet_bytes(Layer::ReferenceList, size.area(), samples)?;
+    Ok(size)
 }

@@ -10,17 +10,12 @@ fn clamped(z: i32, size: usize) -> usize
     ensures value { result ≡ nearest size z }
     ensures below { result < size }
 {
-    if z < 0 {
-        0
-    } else if (z as usize) < size {
-        z as usize
-    } else {
-        size - 1
-    }
+    z.clamp(0, size as i32 - 1) as usize
 }
 
 impl Plane<'_> {
     /// The whole sample of column `x`, row `y`; outside, the nearest one inside, each coordinate by itself.
+    #[tactic(auto, unfolding(crate::specs::Planes::grid))]
     pub fn whole(&self, x: i32, y: i32) -> u8
         ensures { result ≡ grid_of self.now x y }
     {

@@ -1,6 +1,6 @@
 -- The rule of the tables of lengths: what their tests say of each entry.
-use Rattle.std.proofs.Common.{◌≡◌, ℕ, zero, suc, ◌+◌, ◌*◌, ◌/◌, ◌^◌, ◌<◌, ◌≤◌, T, eqb, leb, List, length, get_or, ℤ, pos, negsuc, ◌+ℤ◌, ◌≤ℤ◌, subst, arith, lit<, eqb→eq, ltb→lt, leb→le, pow_mono}
-use native.Mathlib.Nat.{two-pow-succ}
+use Rattle.std.proofs.Common.{◌≡◌, ℕ, zero, suc, ◌+◌, ◌*◌, ◌/◌, ◌^◌, ◌<◌, ◌≤◌, T, eqb, leb, List, length, get_or, ℤ, pos, negsuc, ◌+ℤ◌, ◌≤ℤ◌, refl, subst, add-one, arith, lit<, eqb→eq, ltb→lt, leb→le, pow_mono}
+use native.Mathlib.Nat.{two-pow-succ, pow-succ'}
 use Rattle.std.proofs.lemmas.Int.{ints}
 use Rattle.std.proofs.lemmas.Bool.Decides.{nat_tests}
 use Rattle.rate.specs.Tables.{every}
@@ -42,9 +42,10 @@ pub ruled : (xs : List ℕ) (d : ℤ) (i : ℕ) → T (every right 0 xs) → i <
 ruled xs d i t h e =
     subst (λ (k : ℕ). CodeLength k (get_or xs i 0)) (placed_is d i e) (says (placed i) (get_or xs i 0) (at right xs t i h))
 
--- the same for a table by code numbers
-pub ruled_by_number : (xs : List ℕ) (k : ℕ) → T (every fitting 0 xs) → k < length xs → CodeLength k (get_or xs k 0)
-ruled_by_number xs k t h = says k (get_or xs k 0) (at fitting xs t k h)
+-- the logarithm n of k + 1, as the library finds it
+pub by_log : (k n : ℕ) → 2 ^ n ≤ k + 1 → k + 1 < 2 * 2 ^ n → CodeLength k (2 * n + 1)
+by_log k n low high =
+    record { log = n; is_log = record { low = low; high = rw (add-one n, pow-succ' 2 n) high }; is_length = refl }
 
 -- a code number below 2 ^ n - 1 has a length below 2 n
 pub length_most : (k b n : ℕ) → CodeLength k b → k + 1 < 2 ^ n → b < 2 * n

@@ -4,3 +4,4 @@ pub mod Lengths
 pub mod Lambdas
 pub mod Qps
 pub mod Rates
+pub mod Vectors

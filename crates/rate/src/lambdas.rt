@@ -1,8 +1,7 @@
 //! The table of scaled lambdas.
-ghost use Rattle.std.specs.Prelude.{◌≡◌, ◌<◌, ◌≤◌, T};
+ghost use Rattle.std.specs.Prelude.{T};
 ghost use Rattle.rate.specs.Tables.{every};
-ghost use Rattle.rate.specs.Greatest.{Greatest};
-ghost use Rattle.rate.specs.Lambdas.{Under, scaled_lambda, right, small};
+ghost use Rattle.rate.specs.Lambdas.{right, small};
 
 /// The scaled lambdas for QP 0 to 51.
 const LAMBDAS: [u32; 52] = [
@@ -15,19 +14,9 @@ const LAMBDAS: [u32; 52] = [
 ];
 
 /// The table, and its rule at all of its entries: one test, which is computed.
-fn lambdas() -> &'static [u32; 52]
+pub(crate) fn lambdas() -> &'static [u32; 52]
     ensures rule { T (every right 0 result.now) }
     ensures most { T (every small 0 result.now) }
 {
     &LAMBDAS
-}
-
-/// The scaled lambda of a QP.
-pub(crate) fn lambda_of(qp: u8) -> u32
-    requires { qp < 52 }
-    ensures greatest { Greatest (Under qp) result }
-    ensures value { result ≡ scaled_lambda qp }
-    ensures most { result ≤ 5468703 }
-{
-    lambdas()[qp as usize]
 }

@@ -1,7 +1,7 @@
 //! The lengths of the codes of differences and of picture numbers, in bits.
 ghost use Rattle.std.specs.Prelude.{◌≡◌, ◌<◌, ◌≤◌, T, pos, negsuc, ◌+ℤ◌, ◌≤ℤ◌, IfSome};
 ghost use Rattle.rate.specs.Tables.{every};
-ghost use Rattle.rate.specs.Lengths.{CodeLength, code_length, code_number, difference_length, fitting, right};
+ghost use Rattle.rate.specs.Lengths.{CodeLength, code_length, code_number, difference_length, right};
 
 /// The lengths for the differences from -261 to 261, in their order.
 const LENGTHS: [u8; 523] = [
@@ -44,36 +44,16 @@ fn place_of(d: i16) -> usize
     (d + 261) as usize
 }
 
-/// The length of the code of a difference that the table has.
-fn length_of(d: i16) -> u8
-    requires { (negsuc 260 ≤ℤ d) × (d ≤ℤ pos 261) }
-    ensures rule { CodeLength (code_number d) result }
-    ensures value { result ≡ code_length (code_number d) }
-    ensures most { result ≤ 19 }
-{
-    lengths()[place_of(d)]
-}
-
 /// The length of the code of the difference d, from -261 to 261.
 pub fn code_length(d: i16) -> Option<u8>
     ensures value { result ≡ difference_length d }
     ensures rule { IfSome result (CodeLength (code_number d)) }
     ensures most { IfSome result (λ bits. bits ≤ 19) }
 {
-    if d < -261 || d > 261 {
+    if !(-261..=261).contains(&d) {
         return None;
     }
-    Some(length_of(d))
-}
-
-/// The lengths for the picture numbers 0 to 15.
-const PICTURE_LENGTHS: [u8; 16] = [1, 3, 3, 5, 5, 5, 5, 7, 7, 7, 7, 7, 7, 7, 7, 9];
-
-/// The table, and its rule at all of its entries: one test, which is computed.
-fn picture_lengths() -> &'static [u8; 16]
-    ensures { T (every fitting 0 result.now) }
-{
-    &PICTURE_LENGTHS
+    Some(lengths()[place_of(d)])
 }
 
 /// The length of the code of the picture number k.
@@ -83,5 +63,5 @@ pub(crate) fn picture_length(k: usize) -> u8
     ensures value { result ≡ code_length k }
     ensures most { result ≤ 9 }
 {
-    picture_lengths()[k]
+    2 * (k + 1).ilog2() as u8 + 1
 }

@@ -5,38 +5,37 @@ ghost use Rattle.rate.specs.Greatest.{Greatest};
 ghost use Rattle.rate.specs.Lambdas.{Under, scaled_lambda, rate_part_at};
 ghost use Rattle.rate.specs.Qps.{qp_fault};
 
-use crate::lambdas::lambda_of;
+use crate::lambdas::lambdas;
 use picture::{Fault, Layer, Row};
 
 /// A quantiser parameter: 0 to 51.
-#[derive(Clone, Copy)]
+#[derive(Clone, Copy, PartialEq, Eq, Debug)]
 pub struct Qp {
     pub value: u8,
     ghost ok: { value < 52 },
 }
 
-impl Qp {
-    /// Vets a quantiser parameter.
-    pub fn new(qp: i64) -> Result<Qp, Fault>
-        ensures { Answers result (qp_fault qp) (λ q. pos q.value ≡ qp) }
-    {
-        if qp < 0 || qp > 51 {
-            return Err(Fault {
-                row: Row::Qp,
-                layer: Layer::Settings,
-                value: qp,
-            });
-        }
+/// Vets a quantiser parameter.
+impl TryFrom<i64> for Qp {
+    type Error = Fault;
+
+    ghost try_from_gives = { λ qp answer. Answers answer (qp_fault qp) (λ q. pos q.value ≡ qp) };
+
+    fn try_from(qp: i64) -> Result<Qp, Fault> {
+        let known = (0..=51).contains(&qp);
+        Fault::unless(known, Row::Qp, Layer::Settings, qp)?;
         Ok(Qp { value: qp as u8 })
     }
+}
 
+impl Qp {
     /// The scaled lambda L(QP): the greatest whole number whose sixth power, times 8,000, is at most 4,913 times 2 to the power 84 + QP.
     pub fn lambda(self) -> u32
         ensures greatest { Greatest (Under self.value) result }
         ensures value { result ≡ scaled_lambda self.value }
         ensures most { result ≤ 5468703 }
     {
-        lambda_of(self.value)
+        lambdas()[self.value as usize]
     }
 
     /// The rate part of a cost: floor(L(QP) * R / 65,536), where R is this many bits.

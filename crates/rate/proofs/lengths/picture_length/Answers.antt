@@ -1,11 +1,13 @@
--- What the test of the table says of the entry k.
-use Rattle.std.proofs.Common.{◌+◌, ◌^◌, ◌<◌, length, arith, rules}
-use Rattle.rate.proofs.LengthRule.{ruled_by_number, length_is, length_most}
+-- The logarithm that was worked out is that of the rule.
+use Rattle.std.proofs.Common.{arith, rules}
+use Rattle.rate.proofs.LengthRule.{by_log, length_is, length_most}
 use Rattle.rate.proofs.lengths.picture_length.Goals as goal
 
-pub returns : goal.returns
-returns c =
-    let h : c.args.k < length c.picture_lengths.result.now = search rules in
-    let s : c.args.k + 1 < 2 ^ 5 = search rules in
-    let g = ruled_by_number c.picture_lengths.result.now c.args.k c.picture_lengths.ensures h in
-    record { rule = g; value = length_is _ _ g; most = omega (arith, length_most _ _ 5 g s) }
+pub returns-clause-rule : goal.returns-clause-rule
+returns-clause-rule c = by_log c.args.k c.ilog2.result c.ilog2.ensures.power_le c.ilog2.ensures.next_power_gt
+
+pub returns-clause-value : goal.returns-clause-value
+returns-clause-value c = length_is _ _ (returns-clause-rule c)
+
+pub returns-clause-most : goal.returns-clause-most
+returns-clause-most c = omega (arith, length_most _ _ 5 (returns-clause-rule c) (search rules))
