@@ -1,13 +1,12 @@
 -- The components of predicted vectors, vetted one vector after the other.
-use Rattle.std.proofs.Common.{◌≡◌, ℕ, ◌+◌, ◌<◌, ◌≤◌, List, [], ◌∷◌, length, get_or, drop, ℤ, pos, nat_abs, Some, None, sym, ap, ◌∙◌, ⊎_elim, arith, below_more}
-use Rattle.std.proofs.lemmas.List.{drop_more, drop_all, get_or_past}
-use Rattle.std.proofs.lemmas.Bool.{cases_lt}
+use Rattle.std.proofs.Common.{◌≡◌, ℕ, ◌+◌, ◌<◌, ◌≤◌, List, [], ◌∷◌, length, get_or, drop, ℤ, pos, nat_abs, Some, None, sym, ap, ◌∙◌, arith, below_more}
+use Rattle.std.proofs.lemmas.List.{drop_more, drop_all}
 use Rattle.picture.specs.declared.faults.Fault.{Fault}
 use Rattle.picture.specs.Faults.{Rule, first}
-use Rattle.cost.specs.Predicted.{component_rule, component_rules, AllNear}
+use Rattle.cost.specs.Predicted.{component_rule, component_rules}
 
 -- a vector within the bounds
-abbrev NearAt : List ℤ → List ℤ → ℕ → Type 0
+abbrev pub NearAt : List ℤ → List ℤ → ℕ → Type 0
 NearAt xs ys k = (nat_abs (get_or xs k (pos 0)) ≤ 4096) × (nat_abs (get_or ys k (pos 0)) ≤ 4096)
 
 -- the vectors below i are near, and the first fault is that of the others
@@ -22,6 +21,10 @@ opened xs ys i h g = rw (drop_more xs i (pos 0) h, drop_more ys i (pos 0) g)
 -- neither of two rules applies, so the fault is that of the others
 passed : (a b : Rule) (rs : List Rule) → first (a ∷ b ∷ []) ≡ None → first rs ≡ first (a ∷ b ∷ rs)
 passed a b rs h = grind arith
+
+-- nor does one before them
+pub none_of : (a : Rule) (rs : List Rule) → first (a ∷ []) ≡ None → first rs ≡ None → first (a ∷ rs) ≡ None
+none_of a rs h g = grind arith
 
 -- one of two rules applies, whatever the others are
 met : (a b : Rule) (rs : List Rule) (f : Fault) → first (a ∷ b ∷ []) ≡ Some f → first (a ∷ b ∷ rs) ≡ Some f
@@ -46,14 +49,6 @@ vetted_met xs ys i f v h e here =
     let rest = component_rules (drop (i + 1) xs) (drop (i + 1) ys) in
     sym v.left ∙ ap first (opened xs ys i h (omega arith)) ∙ met x y rest f here
 
--- past the end there are zeros
-near_all : (zs : List ℤ) (i : ℕ) → length zs ≤ i → ((k : ℕ) → k < i → nat_abs (get_or zs k (pos 0)) ≤ 4096) → AllNear zs
-near_all zs i h near k =
-    ⊎_elim (λ (lt : k < i). near k lt) (λ (le : i ≤ k). omega (arith, ap nat_abs (get_or_past zs k (pos 0) (omega arith)))) (cases_lt k i)
-
--- all vectors
-pub vetted_all : (xs ys : List ℤ) (i : ℕ) → Vetted xs ys i → length xs ≤ i → length xs ≡ length ys → (first (component_rules xs ys) ≡ None) × (AllNear xs × AllNear ys)
-vetted_all xs ys i v h e = (
-  sym v.left ∙ ap (λ (l : List ℤ). first (component_rules l (drop i ys))) (drop_all i xs h),
-  (near_all xs i h (λ k lt. (v.near k lt).0), near_all ys i (omega arith) (λ k lt. (v.near k lt).1)),
-)
+-- no rule applies to any vector
+pub vetted_all : (xs ys : List ℤ) (i : ℕ) → Vetted xs ys i → length xs ≤ i → first (component_rules xs ys) ≡ None
+vetted_all xs ys i v h = sym v.left ∙ ap (λ (l : List ℤ). first (component_rules l (drop i ys))) (drop_all i xs h)

@@ -1,6 +1,3 @@
 mod Components
 mod Copies
 pub mod Quarters
-mod Strips
-mod Tabled
-mod Totals

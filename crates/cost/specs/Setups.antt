@@ -1,5 +1,5 @@
 -- What is vetted before vectors are priced, in its order.
-use Rattle.std.specs.Prelude.{◌≡◌, not, List, [], ◌∷◌, length, ℤ, pos, Option, ◌==◌}
+use Rattle.std.specs.Prelude.{◌≡◌, ℕ, not, List, [], ◌∷◌, length, ℤ, pos, Option, ◌==◌}
 use Rattle.picture.specs.declared.faults.Row.TheVariants as rows
 use Rattle.picture.specs.declared.faults.Layer.TheVariants as layers
 use Rattle.picture.specs.declared.faults.Fault.{Fault}
@@ -10,9 +10,14 @@ use Rattle.picture.specs.Planes.{Grid}
 use Rattle.block.specs.declared.places.BlockRequest.{BlockRequest}
 use Rattle.cost.specs.declared.setups.Setup.{Setup}
 use Rattle.block.specs.Blocks.{block_fault, BlockIs}
-use Rattle.cost.specs.Predicted.{arrays_fault, component_rules, Copied}
+use Rattle.cost.specs.Predicted.{arrays_fault, component_rules, Paired}
 use Rattle.rate.specs.Qps.{qp_fault}
 use Rattle.cost.specs.Ranges.{range_fault}
+
+-- a side of a list's pictures that is not that of the current picture
+abbrev pub side_fault : ℕ → ℕ → Option Fault
+side_fault listed current =
+    first (record { applies = not (listed == current); gives = fault rows.SizeMismatch layers.ReferenceList (pos listed) } ∷ [])
 
 -- a list whose pictures are not of the current picture's size: its width before its height
 abbrev pub mismatch_fault : PictureSize → PictureSize → Option Fault
@@ -37,5 +42,4 @@ pub record SetupIs (current : Grid) (list : ListSize) (q : BlockRequest) (qp ran
   pub quantiser : pos s.qp.value ≡ qp
   pub reach : pos s.range.value ≡ range
   pub pictures : s.predicted.pictures ≡ list.pictures
-  pub horizontals : Copied xs s.predicted.xs
-  pub verticals : Copied ys s.predicted.ys
+  pub predicted : Paired xs ys s.predicted.vectors

@@ -1,7 +1,6 @@
 //! Centres of search windows.
 ghost use Rattle.std.specs.Prelude.{◌≡◌, pos, ◌+ℤ◌};
-ghost use Rattle.cost.specs.Centres.{centre_of, Floor4};
-ghost use Rattle.cost.specs.Prices.{centre_in};
+ghost use Rattle.cost.specs.Centres.{centre_of, centre_in, Floor4};
 
 use rate::Vector;
 

@@ -1,19 +1,13 @@
-//! What a vector costs: SAD, the centre of a window, the settings and predicted vectors, and the price of a centre.
+//! What vectors are priced with: the settings, the predicted vectors and the centres of windows.
 #![tactic(auto)]
 
 mod centres;
-mod distortions;
 mod predicted;
-mod prices;
-mod pricing;
 mod ranges;
 mod setting_up;
 mod setups;
-mod sums;
 
 pub use centres::{centre, centre_of};
 pub use predicted::{Predicted, vet_arrays};
-pub use prices::Price;
 pub use ranges::SearchRange;
 pub use setups::Setup;
-pub use sums::sad;

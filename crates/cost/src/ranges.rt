@@ -6,7 +6,7 @@ ghost use Rattle.cost.specs.Ranges.{Reach, is_reach, range_fault};
 use picture::{Fault, Layer, Row};
 
 /// How far from its centre a window reaches, in whole samples.
-#[derive(Clone, Copy)]
+#[derive(Clone, Copy, PartialEq, Eq, Debug)]
 pub struct SearchRange {
     pub value: u8,
     ghost ok: { Reach value },
@@ -16,21 +16,17 @@ pub struct SearchRange {
 fn is_reach(n: i64) -> bool
     ensures { result ≡ is_reach n }
 {
-    n >= 4 && n <= 64 && n % 4 == 0
+    (4..=64).contains(&n) && n % 4 == 0
 }
 
-impl SearchRange {
-    /// Vets a search range.
-    pub fn new(range: i64) -> Result<SearchRange, Fault>
-        ensures { Answers result (range_fault range) (λ w. pos w.value ≡ range) }
-    {
-        if !is_reach(range) {
-            return Err(Fault {
-                row: Row::SearchRange,
-                layer: Layer::Settings,
-                value: range,
-            });
-        }
+/// Vets a search range.
+impl TryFrom<i64> for SearchRange {
+    type Error = Fault;
+
+    ghost try_from_gives = { λ range answer. Answers answer (range_fault range) (λ w. pos w.value ≡ range) };
+
+    fn try_from(range: i64) -> Result<SearchRange, Fault> {
+        Fault::unless(is_reach(range), Row::SearchRange, Layer::Settings, range)?;
         Ok(SearchRange { value: range as u8 })
     }
 }

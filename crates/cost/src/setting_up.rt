@@ -1,8 +1,8 @@
 //! Vetting of all that vectors are priced with.
-ghost use Rattle.std.specs.Prelude.{◌≡◌};
+ghost use Rattle.std.specs.Prelude.{◌≡◌, ◌<◌, ◌^◌};
 ghost use Rattle.picture.specs.Faults.{Answers};
 ghost use Rattle.picture.specs.Planes.{grid_of};
-ghost use Rattle.cost.specs.Setups.{mismatch_fault, setup_fault, SetupIs};
+ghost use Rattle.cost.specs.Setups.{side_fault, mismatch_fault, setup_fault, SetupIs};
 
 use crate::predicted::{Predicted, vet_arrays};
 use crate::ranges::SearchRange;
@@ -11,25 +11,25 @@ use block::{Block, BlockRequest};
 use picture::{Fault, Layer, ListSize, PictureSize, Plane, Row};
 use rate::Qp;
 
+/// Vets a width or a height of a list's pictures against that of the current picture.
+fn vet_same(listed: usize, current: usize) -> Result<(), Fault>
+    requires { listed < 2 ^ 63 }
+    ensures { Answers result (side_fault listed current) (λ _. listed ≡ current) }
+{
+    Fault::unless(
+        listed == current,
+        Row::SizeMismatch,
+        Layer::ReferenceList,
+        listed as i64,
+    )
+}
+
 /// Vets that the pictures of a list are of the current picture's size.
 fn vet_same_size(current: PictureSize, listed: PictureSize) -> Result<(), Fault>
     ensures { Answers result (mismatch_fault current listed) (λ _. (listed.width ≡ current.width) × (listed.height ≡ current.height)) }
 {
-    if listed.width != current.width {
-        return Err(Fault {
-            row: Row::SizeMismatch,
-            layer: Layer::ReferenceList,
-            value: listed.width as i64,
-        });
-    }
-    if listed.height != current.height {
-        return Err(Fault {
-            row: Row::SizeMismatch,
-            layer: Layer::ReferenceList,
-            value: listed.height as i64,
-        });
-    }
-    Ok(())
+    vet_same(listed.width, current.width)?;
+    vet_same(listed.height, current.height)
 }
 
 impl Setup {
@@ -48,8 +48,8 @@ impl Setup {
         vet_arrays(list.pictures, xs, ys)?;
         let block = Block::new(current, request)?;
         vet_same_size(current.size, list.picture)?;
-        let qp = Qp::new(qp)?;
-        let range = SearchRange::new(range)?;
+        let qp = Qp::try_from(qp)?;
+        let range = SearchRange::try_from(range)?;
         let predicted = Predicted::new(list, xs, ys)?;
         Ok(Setup {
             block,
