@@ -1,5 +1,5 @@
 //! A block of the current picture.
-ghost use Rattle.std.specs.Prelude.{◌≤◌};
+ghost use Rattle.std.specs.Prelude.{◌≡◌, ◌≤◌, length};
 
 use crate::shapes::Shape;
 
@@ -11,4 +11,5 @@ pub struct Block {
     pub top: usize,
     pub samples: [u8; 256],
     ghost near: { (left ≤ 1920) × (top ≤ 1920) },
+    ghost full: { length samples ≡ 256 },
 }

@@ -1,3 +1,3 @@
 pub mod Blocks
 pub mod Totals
-pub mod Rated
+pub mod Wholes

@@ -1,5 +1,5 @@
 -- Running totals: they never fall, and where a trial stops.
-use Rattle.std.proofs.Common.{◌≡◌, ℕ, zero, suc, ◌+◌, ◌*◌, ◌<◌, ◌≤◌, true, false, ltb, leb, length, sym, ap, ◌∙◌, ⊎_elim, add-one, arith, below_more}
+use Rattle.std.proofs.Common.{◌≡◌, ℕ, zero, suc, ◌+◌, ◌*◌, ◌<◌, ◌≤◌, true, false, ltb, leb, length, Ok, Err, sym, ap, ◌∙◌, ⊎_elim, add-one, arith, below_more}
 use Rattle.std.proofs.lemmas.Bool.Decides.{nat_tests}
 use Rattle.std.proofs.lemmas.Bool.{cases_lt}
 use Rattle.measure.specs.Sums.{total}
@@ -45,36 +45,38 @@ fewest_is p bound n (suc m) under met le =
     rw (e, t) (omega arith))
     (cases_lt n (suc m))
 
--- a total that stays below the bound is the cost, and one that reaches it shows that the cost does
-ended : (p : CostParts) (bound m sum k : ℕ) → Reading p bound m sum k → (k < length p.strips → bound ≤ sum) → (ltb sum bound ≡ ltb (cost_of p) bound) × (ltb sum bound ≡ true → sum ≡ cost_of p)
-ended p bound m sum k inv stop =
-    ⊎_elim
-    (λ (lt : sum < bound).
-    let done : length p.strips ≤ k = ⊎_elim (λ (l : k < length p.strips). absurd (omega (arith, stop l))) (λ (ge : length p.strips ≤ k). ge) (cases_lt k (length p.strips)) in
-    let e : k ≡ length p.strips = omega (arith, inv.within) in
-    let s : sum ≡ cost_of p = inv.sums ∙ ap (running p) e in
-    (ap (λ n. ltb n bound) s, λ b. s))
-    (λ (ge : bound ≤ sum).
-    let rises = total_rises (cost_at p) k (length p.strips) inv.within in
-    let j : bound ≤ cost_of p = omega (arith, inv.sums) in
-    let a : ltb sum bound ≡ false = grind (arith, nat_tests) in
-    let b : ltb (cost_of p) bound ≡ false = grind (arith, nat_tests) in
-    (a ∙ sym b, λ c. absurd (let z : true ≡ false = sym c ∙ a in never z)))
-    (cases_lt sum bound)
-  where
-    never : true ≡ false → ⊥
-    never e = let z : ◌≡◌ {A = ℕ} 0 1 = cc in omega arith
+below : (a b : ℕ) → a < b → true ≡ ltb a b
+below a b h = grind (arith, nat_tests)
 
--- the trial that has come to its end: the bound is reached, or no strip is left
-pub reading_all : (p : CostParts) (bound m sum k : ℕ) → Reading p bound m sum k → (k < length p.strips → bound ≤ sum) →
-    Tried p bound (record { better = ltb sum bound; total = sum; strips = k })
-reading_all p bound m sum k inv stop =
-    let e = ended p bound m sum k inv stop in
-    let reached : k < length p.strips → bound ≤ running p k = λ lt. omega (arith, stop lt, inv.sums) in
+above : (a b : ℕ) → b ≤ a → false ≡ ltb a b
+above a b h = grind (arith, nat_tests)
+
+-- a trial that has read all n strips without reaching the bound
+pub reading_all : (p : CostParts) (bound m sum k n : ℕ) → Reading p bound m sum k → sum < bound → k ≡ n → length p.strips ≡ n →
+    Tried p bound (record { cost = Ok sum; strips = n })
+reading_all p bound m sum k n inv lt e all =
+    let j : sum ≡ cost_of p = inv.sums ∙ ap (running p) (e ∙ sym all) in
+    let done : n < length p.strips → bound ≤ running p n = λ l. absurd (omega (arith, l, all)) in
     record {
-      better = e.0;
-      sum = inv.sums;
-      cost = e.1;
-      fewest = record { within = inv.within; under = inv.under; reached = reached };
-      read = sym (fewest_is p bound k (length p.strips) inv.under reached inv.within);
+      better = below (cost_of p) bound (omega (arith, j));
+      sum = inv.sums ∙ ap (running p) e;
+      cost = j;
+      fewest = record { within = omega (arith, all); under = λ i l. inv.under i (omega (arith, l, e)); reached = done };
+      read = sym (fewest_is p bound n (length p.strips) (λ i l. inv.under i (omega (arith, l, e))) done (omega (arith, all)));
+    }
+
+-- a trial that has read n strips, and whose total reaches the bound: so the cost does
+pub reading_met : (p : CostParts) (bound m sum k n : ℕ) → Reading p bound m sum k → bound ≤ sum → k ≡ n →
+    Tried p bound (record { cost = Err sum; strips = n })
+reading_met p bound m sum k n inv ge e =
+    let s : sum ≡ running p n = inv.sums ∙ ap (running p) e in
+    let within : n ≤ length p.strips = omega (arith, inv.within, e) in
+    let rises = total_rises (cost_at p) n (length p.strips) within in
+    let met : bound ≤ running p n = omega (arith, s) in
+    record {
+      better = above (cost_of p) bound (omega (arith, met, rises));
+      sum = s;
+      cost = tt;
+      fewest = record { within = within; under = λ i l. inv.under i (omega (arith, l, e)); reached = λ l. met };
+      read = sym (fewest_is p bound n (length p.strips) (λ i l. inv.under i (omega (arith, l, e))) (λ l. met) within);
     }

@@ -3,3 +3,4 @@ pub mod Rating
 pub mod Prices
 pub mod Strips
 pub mod Marked
+pub mod Centres

@@ -1,5 +1,5 @@
 -- Prices: running totals over strips, the cost J, and how far a trial under a bound reads.
-use Rattle.std.specs.Prelude.{◌≡◌, ℕ, zero, suc, ◌+◌, ◌<◌, ◌≤◌, true, cond, List, length, nat_le, nat_lt, slice_index}
+use Rattle.std.specs.Prelude.{◌≡◌, ℕ, zero, suc, ◌+◌, ◌<◌, ◌≤◌, cond, List, length, is_ok, IfOk, Ok, Err, Result, nat_le, nat_lt, slice_index}
 use Rattle.measure.specs.Sums.{total}
 use Rattle.candidate.specs.declared.prices.Trial.{Trial}
 
@@ -35,10 +35,15 @@ fewest_of p bound (suc m) = cond (nat_le bound (running p (fewest_of p bound m))
 abbrev pub read_under : CostParts → ℕ → ℕ
 read_under p bound = fewest_of p bound (length p.strips)
 
+-- the total that a trial came to, whether it stayed below the bound or not
+abbrev pub total_of : Result ℕ ℕ → ℕ
+total_of (Ok total) = total
+total_of (Err total) = total
+
 -- what a trial tells: better just where J is below the bound, and J then; it reads no more strips than show that
 pub record Tried (p : CostParts) (bound : ℕ) (t : Trial) : Type 0 where
-  pub better : t.better ≡ nat_lt (cost_of p) bound
-  pub sum : t.total ≡ running p t.strips
-  pub cost : t.better ≡ true → t.total ≡ cost_of p
+  pub better : is_ok t.cost ≡ nat_lt (cost_of p) bound
+  pub sum : total_of t.cost ≡ running p t.strips
+  pub cost : IfOk t.cost (λ total. total ≡ cost_of p)
   pub fewest : Fewest p bound t.strips
   pub read : t.strips ≡ read_under p bound

@@ -1,15 +1,16 @@
 -- The rate part of a candidate's cost.
-use Rattle.std.specs.Prelude.{ℕ, Bool, cond, ◌&&◌, ℤ, pos, ◌-ℤ◌, Some, None, Option, nat_lt, slice_index_or}
+use Rattle.std.specs.Prelude.{ℕ, Bool, cond, ◌&&◌, ℤ, ◌-ℤ◌, Some, None, Option, nat_lt}
 use Rattle.rate.specs.declared.vectors.Vector.{Vector}
 use Rattle.rate.specs.Lengths.{is_tabled}
 use Rattle.rate.specs.Rates.{rate_bits}
 use Rattle.rate.specs.Lambdas.{rate_part_at}
+use Rattle.cost.specs.Predicted.{vector_in}
 use Rattle.cost.specs.declared.setups.Setup.{Setup}
 use Rattle.candidate.specs.declared.candidates.Candidate.{Candidate}
 
 -- the predicted vector of picture r
 abbrev pub predicted_in : Setup → ℕ → Vector
-predicted_in s r = record { x = slice_index_or s.predicted.xs r (pos 0); y = slice_index_or s.predicted.ys r (pos 0) }
+predicted_in s r = vector_in s.predicted.vectors r
 
 -- the difference of a candidate from its picture's predicted vector, across and down
 abbrev pub across : Setup → Candidate → ℤ

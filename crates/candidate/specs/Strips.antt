@@ -35,4 +35,4 @@ parts_of s m cost c =
 -- the price of a candidate that has one
 abbrev pub price_of : Setup → ListMeaning → Cost → Candidate → Option Price
 price_of s m cost c =
-    cond (is_priced s c) (Some (record { rate_part = rate_part_of s c; cost = cost_of (parts_of s m cost c) })) None
+    cond (is_priced s c) (Some (record { vector = c.vector; rate_part = rate_part_of s c; cost = cost_of (parts_of s m cost c) })) None

@@ -2,15 +2,17 @@
 #![tactic(auto)]
 
 mod candidates;
+mod centres;
 mod marked;
 mod prices;
 mod pricing;
 mod rating;
 mod stages;
-mod trials;
+mod strips;
 
 pub use candidates::Candidate;
+pub use centres::price_centre;
 pub use marked::examples_hold;
 pub use prices::{Price, Trial};
-pub use pricing::{price_candidate, try_candidate};
+pub use pricing::Pricing;
 pub use rating::rate_part;

@@ -1,16 +1,18 @@
 //! What pricing a candidate tells.
+use rate::Vector;
 
-/// The cost J of a candidate, and its rate part.
-#[derive(Clone, Copy)]
+/// A vector in quarter samples, the rate part of its cost, and the cost J.
+#[derive(Clone, Copy, PartialEq, Eq, Debug)]
 pub struct Price {
+    pub vector: Vector,
     pub rate_part: u32,
     pub cost: u32,
 }
 
-/// A trial that may have stopped early: whether the running total stayed below the bound, that total, and the strips read.
-#[derive(Clone, Copy)]
+/// A trial under a bound: the cost J, where it is below the bound, else the running total that reached it; and the
+/// strips read.
+#[derive(Clone, Copy, PartialEq, Eq, Debug)]
 pub struct Trial {
-    pub better: bool,
-    pub total: u32,
+    pub cost: Result<u32, u32>,
     pub strips: usize,
 }

@@ -1,39 +1,28 @@
 //! Candidates of the whole-sample stage.
-ghost use Rattle.std.specs.Prelude.{◌≡◌, true};
-ghost use Rattle.candidate.specs.Candidates.{is_whole, quarters_of, whole_candidate};
+ghost use Rattle.std.specs.Prelude.{◌≡◌};
+ghost use Rattle.candidate.specs.Candidates.{whole_candidate};
+ghost use Rattle.candidate.specs.Centres.{centre_candidate};
 
 use crate::candidates::Candidate;
+use cost::{Setup, centre_of};
 use rate::Vector;
-
-/// Whether four times a component is a 16-bit number still.
-fn is_whole(z: i16) -> bool
-    ensures { result ≡ is_whole z }
-{
-    z >= -8192 && z <= 8191
-}
-
-/// A whole-sample vector in quarter samples.
-fn quarters(vector: Vector) -> Vector
-    requires { (is_whole vector.x ≡ true) × (is_whole vector.y ≡ true) }
-    ensures { result ≡ quarters_of vector }
-{
-    Vector {
-        x: 4 * vector.x,
-        y: 4 * vector.y,
-    }
-}
 
 impl Candidate {
     /// The candidate of a whole-sample vector; nothing where four times the vector is none of 16 bits.
     pub fn whole(picture: usize, vector: Vector) -> Option<Candidate>
         ensures { result ≡ whole_candidate picture vector }
     {
-        if !is_whole(vector.x) || !is_whole(vector.y) {
-            return None;
-        }
-        Some(Candidate {
-            picture,
-            vector: quarters(vector),
-        })
+        let vector = Vector {
+            x: vector.x.checked_mul(4)?,
+            y: vector.y.checked_mul(4)?,
+        };
+        Some(Candidate { picture, vector })
+    }
+
+    /// The centre of a picture's window; nothing for a picture that has no predicted vector.
+    pub fn centre(setup: &Setup, picture: usize) -> Option<Candidate>
+        ensures { result ≡ centre_candidate setup.now picture }
+    {
+        Candidate::whole(picture, centre_of(setup.predicted.get(picture)?))
     }
 }

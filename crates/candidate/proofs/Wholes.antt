@@ -1,0 +1,122 @@
+-- At a whole-sample vector the computing list has the picture's own samples, so J by SAD is worked out from those.
+use Rattle.std.proofs.Common.{◌≡◌, ℕ, zero, suc, ◌+◌, ◌*◌, ◌/◌, ◌%◌, ◌<◌, ◌≤◌, Bool, true, false, leb, Option, Some, None, nat_abs, ◌-ℤ◌, cond, List, [], ◌∷◌, map, length, ltb, ℤ, pos, negsuc, ◌+ℤ◌, ◌*ℤ◌, sym, refl, ap, ◌∙◌, arith, length-take, length-drop, lit≤}
+use Rattle.std.specs.Int.{int_div_euclid, int_rem_euclid}
+use Rattle.std.proofs.lemmas.Int.{ints, int_rem_euclid_is}
+use Rattle.std.specs.List.{range_with_len}
+use Rattle.picture.specs.declared.pictures.ReferencePictures.{ReferencePictures}
+use Rattle.picture.specs.Planes.{Grid, grid_sample}
+use Rattle.picture.specs.Pictures.{whole_of}
+use Rattle.reference.specs.declared.computed.ComputedList.{ComputedList}
+use Rattle.reference.specs.Interpolation.{cell, quarter}
+use Rattle.reference.specs.Lists.{strip_at, strip_of}
+use Rattle.reference.specs.Computed.{computed, grid_at}
+use Rattle.std.proofs.lemmas.Nat.{mul-le}
+use Rattle.block.specs.declared.shapes.Shape.{Shape}
+use Rattle.block.specs.declared.shapes.Shape.TheVariants.{B16x16, B16x8, B8x16, B8x8, B8x4, B4x8, B4x4}
+use Rattle.candidate.specs.Rating.{rate_part_of}
+use Rattle.block.specs.declared.blocks.Block.{Block}
+use Rattle.block.specs.Shapes.{shape_width, shape_height}
+use Rattle.measure.specs.Sums.{sad, total}
+use Rattle.std.proofs.lemmas.Bool.Decides.{nat_tests}
+use Rattle.rate.specs.Lengths.{is_tabled}
+use Rattle.cost.proofs.Quarters.{floor_is}
+use Rattle.cost.specs.Centres.{Floor4, centre_of, centre_in}
+use Rattle.candidate.specs.declared.candidates.Candidate.{Candidate}
+use Rattle.candidate.specs.declared.prices.Price.{Price}
+use Rattle.candidate.specs.Rating.{predicted_in}
+use Rattle.cost.specs.declared.setups.Setup.{Setup}
+use Rattle.rate.specs.declared.vectors.Vector.{Vector}
+use Rattle.candidate.specs.Prices.{cost_at, cost_of}
+use Rattle.candidate.specs.Strips.{block_strip, list_strip, strip_cost, parts_of, price_of}
+use Rattle.candidate.specs.Centres.{in_quarters, grid_strip, strip_sad, block_sad, whole_price, centre_candidate, centre_price}
+use Rattle.candidate.proofs.Blocks.{strips_many, strip_costs, shape_strip, asked_is, strip_length}
+
+div4 : (a : ℤ) → int_div_euclid (pos 4 *ℤ a) (pos 4) ≡ a
+div4 a = let f = floor_is (pos 4 *ℤ a) (int_div_euclid (pos 4 *ℤ a) (pos 4)) refl in omega (arith, ints, f.0, f.1)
+
+rem4 : (a : ℤ) → int_rem_euclid (pos 4 *ℤ a) (pos 4) ≡ pos 0
+rem4 (pos n) = omega (arith, ints)
+rem4 (negsuc n) = int_rem_euclid_is (pos 4 *ℤ negsuc n) (pos 4) 4 (n + 1) 0 (omega arith) refl (omega (arith, ints))
+
+-- the sample at a whole position is the cell's own
+own : (g : Grid) (a b : ℤ) → quarter g (pos 4 *ℤ a) (pos 4 *ℤ b) ≡ g a b
+unfolding quarter cell
+own g a b = rw (rem4 a, rem4 b, div4 a, div4 b) refl
+
+own_at : (g : Grid) (X Y a b : ℤ) → X ≡ pos 4 *ℤ a → Y ≡ pos 4 *ℤ b → quarter g X Y ≡ g a b
+own_at g X Y a b ex ey = rw (ex, ey) (own g a b)
+
+-- sample k of a strip of the list, at whole positions
+strip_sample : (l : ComputedList) (r : ℕ) (X Y x y : ℤ) (w k : ℕ) → X ≡ pos 4 *ℤ x → Y ≡ pos 4 *ℤ y → strip_at (computed l) r X Y w k ≡ grid_sample (whole_of l.pictures r) x y w k
+strip_sample l r X Y x y w k ex ey =
+    ap (λ (n : ℕ). cond (ltb r l.pictures.size.pictures) n 0)
+    (own_at (grid_at l r) (X +ℤ pos (4 * (k % w))) (Y +ℤ pos (4 * (k / w))) (x +ℤ pos (k % w)) (y +ℤ pos (k / w)) (omega (arith, ints, ex)) (omega (arith, ints, ey)))
+
+map_same : {A B : Type 0} (f h : A → B) (xs : List A) → ((a : A) → f a ≡ h a) → map f xs ≡ map h xs
+map_same f h [] e = refl
+map_same f h (x ∷ xs) e = rw (e x, map_same f h xs e) refl
+
+strip_is : (l : ComputedList) (r : ℕ) (X Y x y : ℤ) (w : ℕ) → X ≡ pos 4 *ℤ x → Y ≡ pos 4 *ℤ y → strip_of (computed l) r X Y w ≡ grid_strip (whole_of l.pictures r) x y w
+unfolding strip_of grid_strip
+strip_is l r X Y x y w ex ey =
+    map_same (strip_at (computed l) r X Y w) (grid_sample (whole_of l.pictures r) x y w) (range_with_len 0 (4 * w)) (λ k. strip_sample l r X Y x y w k ex ey)
+
+-- the cost of a block's strip by SAD
+strip_cost_at : (l : ComputedList) (b : Block) (r : ℕ) (v : Vector) (s : ℕ) → length (block_strip b s) ≡ 4 * shape_width b.shape → strip_cost sad (computed l) b (in_quarters r v) s ≡ strip_sad b (whole_of l.pictures r) v.x v.y s
+strip_cost_at l b r v s long =
+    let w = shape_width b.shape in
+    let e = strip_is l r (pos (4 * b.left) +ℤ pos 4 *ℤ v.x) (pos (4 * (b.top + 4 * s)) +ℤ pos 4 *ℤ v.y) (pos b.left +ℤ v.x) (pos (b.top + 4 * s) +ℤ v.y) w (omega (arith, ints)) (omega (arith, ints)) in
+    sym
+    (asked_is sad (strip_sad b (whole_of l.pictures r) v.x v.y s) (block_strip b s) _ (block_strip b s) (list_strip (computed l) b (in_quarters r v) s) refl refl (sym e)
+    (rw long (shape_strip b.shape))
+    (strip_length (computed l) r (pos (4 * b.left) +ℤ pos 4 *ℤ v.x) (pos (4 * (b.top + 4 * s)) +ℤ pos 4 *ℤ v.y) w ∙ sym long))
+
+total_same : (f h : ℕ → ℕ) (n : ℕ) → ((k : ℕ) → k < n → f k ≡ h k) → total n f ≡ total n h
+total_same f h zero e = refl
+total_same f h (suc n) e = rw (total_same f h n (λ k lt. e k (omega arith)), e n (omega arith)) refl
+
+few_strips : (sh : Shape) → (shape_height sh / 4 ≤ 4) × (shape_width sh ≤ 16)
+few_strips = elim [ B16x16 ↦ (lit≤ tt, lit≤ tt) | B16x8 ↦ (lit≤ tt, lit≤ tt) | B8x16 ↦ (lit≤ tt, lit≤ tt) | B8x8 ↦ (lit≤ tt, lit≤ tt) | B8x4 ↦ (lit≤ tt, lit≤ tt) | B4x8 ↦ (lit≤ tt, lit≤ tt) | B4x4 ↦ (lit≤ tt, lit≤ tt) ]
+
+-- a strip of a block has four rows
+strip_long : (b : Block) (s : ℕ) → s < shape_height b.shape / 4 → length (block_strip b s) ≡ 4 * shape_width b.shape
+strip_long b s lt =
+    let w = shape_width b.shape in
+    let f = few_strips b.shape in
+    let m : s * (4 * w) ≤ 3 * 64 = mul-le s (4 * w) 3 64 (omega (arith, f.0, lt)) (omega (arith, f.1)) in
+    simp (length-take, length-drop) (omega (arith, m, f.1, b.full))
+
+-- J by SAD at a whole-sample vector
+cost_is : (s : Setup) (l : ComputedList) (r : ℕ) (v : Vector) →
+    cost_of (parts_of s (computed l) sad (in_quarters r v)) ≡ rate_part_of s (in_quarters r v) + block_sad s.block (whole_of l.pictures r) v.x v.y
+cost_is s l r v =
+    let c = in_quarters r v in
+    let n = shape_height s.block.shape / 4 in
+    let many = strips_many s (computed l) sad c in
+    let same : total n (cost_at (parts_of s (computed l) sad c)) ≡ block_sad s.block (whole_of l.pictures r) v.x v.y =
+    total_same (cost_at (parts_of s (computed l) sad c)) (strip_sad s.block (whole_of l.pictures r) v.x v.y) n (λ k lt. strip_costs s (computed l) sad c k lt ∙ strip_cost_at l s.block r v k (strip_long s.block k lt)) in
+    rw (many, same) refl
+
+-- the centre of a window is near its predicted vector: the table of code lengths has both differences
+apart : (p q : ℤ) → Floor4 (p +ℤ pos 2) q → nat_abs (pos 4 *ℤ q -ℤ p) ≤ 261
+apart p q f = omega (arith, ints, f.0, f.1)
+
+within : (n : ℕ) → n ≤ 261 → leb n 261 ≡ true
+within n h = grind (arith, nat_tests)
+
+tabled : (p : ℤ) → is_tabled (pos 4 *ℤ centre_of p -ℤ p) ≡ true
+tabled p = within _ (apart p (centre_of p) (floor_is (p +ℤ pos 2) (centre_of p) refl))
+
+-- the price of the centre, once there is one
+price_at : (s : Setup) (l : ComputedList) (r : ℕ) (b : Bool) (c : Candidate) → ltb r s.predicted.pictures ≡ b →
+    Some c ≡ cond b (Some (in_quarters r (centre_in (predicted_in s r)))) None →
+    price_of s (computed l) sad c ≡ cond b (Some (whole_price s (whole_of l.pictures r) r (centre_in (predicted_in s r)))) None
+price_at s l r true c e is =
+    let v = centre_in (predicted_in s r) in
+    let at : c ≡ in_quarters r v = grind (arith, is) in
+    rw (at, e, tabled (predicted_in s r).x, tabled (predicted_in s r).y, cost_is s l r v) refl
+price_at s l r false c e is = absurd (grind (arith, is))
+
+pub price_is : (s : Setup) (l : ComputedList) (p : ReferencePictures) (r : ℕ) (c : Candidate) (answer : Option Price) →
+    Some c ≡ centre_candidate s r → l.pictures ≡ p → answer ≡ price_of s (computed l) sad c → answer ≡ centre_price s (whole_of p r) r
+price_is s l p r c answer is e got = got ∙ price_at s l r (ltb r s.predicted.pictures) c refl is ∙ ap (λ (q : ReferencePictures). centre_price s (whole_of q r) r) e

@@ -1,0 +1,8 @@
+-- The centre has a price, and J is worked out from the picture's own samples.
+use Rattle.candidate.proofs.Wholes.{price_is}
+use Rattle.candidate.proofs.centres.price_centre.Goals as goal
+
+pub returns : goal.returns
+returns c =
+    price_is c.args.setup.now c.new-list.result c.args.pictures.now c.args.picture c.in_ok-candidate.candidate c.price.result
+    c.in_ok-candidate.ensures c.new-list.ensures c.price.ensures.value
