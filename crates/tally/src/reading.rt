@@ -1,0 +1,51 @@
+//! The numbers of a record.
+ghost use Rattle.std.specs.Prelude.{◌≡◌, List, [], ◌∷◌, ◌++◌, Some, IfOk, IsErrOf};
+ghost use Rattle.std.specs.List.{AllZip};
+ghost use Rattle.tally.specs.Reasons.{reason_text};
+ghost use Rattle.std.specs.Iterator.{IsFinite, Drains, Yields};
+
+use std::alloc::Global;
+use std::error::Error;
+use std::fmt;
+use std::str::FromStr;
+
+/// Why a record gives no numbers.
+#[derive(Clone, Copy, PartialEq, Eq, Debug)]
+pub enum BadRecord {
+    NotANumber,
+    OutOfMemory,
+}
+
+impl fmt::Display for BadRecord {
+    ghost output = { λ e. Some (reason_text e) };
+
+    fn fmt<W: fmt::Write>(&self, f: &mut fmt::Formatter<W>) -> fmt::Result {
+        match self {
+            BadRecord::NotANumber => write!(f, "a word that is not a number"),
+            BadRecord::OutOfMemory => write!(f, "out of memory"),
+        }
+    }
+}
+
+impl Error for BadRecord {}
+
+/// The numbers that words say, in their order.
+#[tactic(auto, using(std::proofs::lemmas::Slice::Zip::all_zipped_more))]
+pub fn numbers<'a, T: FromStr + Drop, W: Iterator<Item = &'a str> + Drop>(
+    heap: Global,
+    words: W,
+) -> Result<Vec<T>, BadRecord>
+where
+    T::Err: Drop,
+    requires can { W.can_next words }
+    requires ends { IsFinite (W.remaining words) }
+    ensures refused { IsErrOf result BadRecord.NotANumber → (ws : List _) × (w : _) × (t : W) × Yields W.next_gives words (ws ++ w ∷ []) t × ((e : T.Err) × T.from_str_gives w.now (Err e)) }
+    ensures said { IfOk result (λ v. (ws : List _) × Drains W.next_gives words ws × AllZip (λ w n. T.from_str_gives w.now (Ok n)) ws v.items) }
+{
+    let mut numbers = Vec::new(heap);
+    for word in words {
+        let number = word.parse().map_err(|_| BadRecord::NotANumber)?;
+        numbers.push(number).map_err(|_| BadRecord::OutOfMemory)?;
+    }
+    Ok(numbers)
+}
