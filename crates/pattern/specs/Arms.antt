@@ -1,14 +1,17 @@
 -- The crosses and the rings by index.
-use Rattle.std.specs.Prelude.{◌≡◌, ℕ, zero, suc, ◌+◌, ◌-◌, ◌*◌, ◌/◌, ◌%◌, ◌<◌, ◌≤◌, List, map, length, get_or, ℤ, pos, ◌-ℤ◌, ◌*ℤ◌, slice_index_or, unsigned_abs, refl}
+use Rattle.std.specs.Prelude.{◌≡◌, ℕ, zero, suc, ◌+◌, ◌-◌, ◌*◌, ◌/◌, ◌%◌, ◌<◌, ◌≤◌, List, map, length, get_or, ℤ, pos, slice_index_or, unsigned_abs, refl}
 use Rattle.std.proofs.Common.{sym, ap, subst, ◌∙◌, ⊎_elim, arith, length-append}
 use Rattle.std.specs.List.{range_with_len, flat_map}
 use Rattle.std.proofs.lemmas.List.{get_or_append_left, get_or-append_right, get_or_past, get_or-map}
 use Rattle.std.proofs.lemmas.Int.{ints}
 use Rattle.std.proofs.lemmas.Bool.{cases_lt}
+use Rattle.std.proofs.Math.Dec.{lit≤}
 use Rattle.rate.specs.declared.vectors.Vector.{Vector}
 use Rattle.cost.specs.Ranges.{Reach}
 use Rattle.pattern.specs.Offsets.{at, still, times, Within}
-use Rattle.pattern.specs.Patterns.{cross, oddly, rings, sixteen}
+use Rattle.pattern.specs.declared.squares.Eight.{Eight}
+use Rattle.pattern.specs.declared.squares.Eight.TheVariants.{One, Two}
+use Rattle.pattern.specs.Patterns.{cross, oddly, rings, sixteen, eight, distance_of}
 use Rattle.pattern.specs.Joins.{length_joined, get_or_joined}
 use Rattle.pattern.specs.Shorts.{each_within, get_or_times, times_within}
 
@@ -36,6 +39,10 @@ length_cross w h =
     length-append (line (λ x. at x (pos 0)) (w / 2)) (line (λ y. at (pos 0) y) (w / 4)) ∙
     omega (arith, length_line (λ x. at x (pos 0)) (w / 2), length_line (λ y. at (pos 0) y) (w / 4))
 
+-- a cross has few offsets
+pub cross_few : (w : ℕ) → Reach w → length (cross w) ≤ 1024
+cross_few w h = omega (arith, length_cross w h)
+
 pub cross_level : (w i : ℕ) → Reach w → i < w → slice_index_or (cross w) i still ≡ at (odd_at i) (pos 0)
 unfolding cross
 cross_level w i h lt =
@@ -54,6 +61,10 @@ cross_past w i h le = get_or_past (cross w) i still (omega (arith, length_cross 
 pub length_rings : (w : ℕ) → Reach w → length (rings w) ≡ 4 * w
 unfolding rings sixteen
 length_rings w h = length_joined 16 (λ (k : ℕ). map (times k) sixteen) 1 (w / 4) (λ k l m. refl) ∙ omega arith
+
+-- rings have few offsets
+pub rings_few : (w : ℕ) → Reach w → length (rings w) ≤ 1024
+rings_few w h = omega (arith, length_rings w h)
 
 pub rings_at : (w i : ℕ) → Reach w → i < 4 * w → slice_index_or (rings w) i still ≡ times (1 + i / 16) (slice_index_or sixteen (i % 16) still)
 unfolding rings sixteen
@@ -77,7 +88,7 @@ odd_at_short i lt = odd_short (i / 2) (i % 2) (omega arith) (omega arith)
 
 sixteen_short : (i : ℕ) → Within 4 (slice_index_or sixteen i still)
 unfolding sixteen
-sixteen_short i = each_within 4 sixteen tt i
+sixteen_short i = each_within 4 sixteen refl i
 
 pub rings_short : (w k : ℕ) → Reach w → Within 64 (slice_index_or (rings w) k still)
 rings_short w k h =
@@ -87,14 +98,6 @@ rings_short w k h =
     (times_within (1 + k / 16) 4 64 (slice_index_or sixteen (k % 16) still) (sixteen_short (k % 16)) (omega arith)))
     (λ (m : 4 * w ≤ k). subst (Within 64) (sym (rings_past w k h m)) (omega arith, omega arith))
     (cases_lt k (4 * w))
-
--- the second of each two of a line
-pub odd_minus : (i : ℕ) (z : ℤ) → i % 2 ≡ 1 → z ≡ pos 1 -ℤ pos 2 *ℤ pos (1 + i / 2) → z ≡ odd_at i
-odd_minus i z r e = subst (λ (k : ℕ). z ≡ slice_index_or (oddly (1 + i / 2)) k (pos 0)) (sym r) e
-
--- a point that was read from a table of ring 1, stretched
-pub ring_point : (w i : ℕ) (table : List Vector) (o : Vector) → Reach w → i < 4 * w → table ≡ sixteen → o ≡ slice_index_or table (i % 16) still → times (1 + i / 16) o ≡ slice_index_or (rings w) i still
-ring_point w i table o h lt te oe = rw (oe, te) (sym (rings_at w i h lt))
 
 -- every offset of a cross is short
 pub cross_short : (w k : ℕ) → Reach w → Within 64 (slice_index_or (cross w) k still)
@@ -107,3 +110,14 @@ cross_short w k h =
     (λ (m : w + w / 2 ≤ k). subst (Within 64) (sym (cross_past w k h m)) (omega arith, omega arith))
     (cases_lt k (w + w / 2)))
     (cases_lt k w)
+
+-- an eight has few offsets, all of them short
+pub eight_few : (e : Eight) → length (eight (distance_of e)) ≤ 1024
+unfolding eight
+eight_few One = lit≤ tt
+eight_few Two = lit≤ tt
+
+pub eight_short : (e : Eight) (k : ℕ) → Within 64 (slice_index_or (eight (distance_of e)) k still)
+unfolding eight
+eight_short One k = each_within 64 (eight 1) refl k
+eight_short Two k = each_within 64 (eight 2) refl k

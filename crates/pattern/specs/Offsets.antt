@@ -7,10 +7,6 @@ use Rattle.rate.specs.declared.vectors.Vector.{Vector}
 abbrev pub at : ℤ → ℤ → Vector
 at x y = record { x = x; y = y }
 
--- the offset of a pair
-abbrev pub paired : ℤ × ℤ → Vector
-paired p = at p.0 p.1
-
 -- the offset that moves nothing
 abbrev pub still : Vector
 still = at (pos 0) (pos 0)

@@ -3,9 +3,9 @@ ghost use Rattle.std.specs.Prelude.{◌≡◌, ◌+◌, ◌/◌, ◌%◌, ◌<�
 ghost use Rattle.picture.specs.Faults.{Answers};
 ghost use Rattle.cost.specs.Ranges.{range_fault};
 ghost use Rattle.pattern.specs.Patterns.{cross, oddly};
-ghost use Rattle.std.proofs.Common.{arith};
-ghost use Rattle.pattern.specs.Arms.{length_cross, cross_short};
+ghost use Rattle.pattern.specs.Arms.{cross_few, cross_short};
 
+use crate::offsets::STILL;
 use crate::patterns::Pattern;
 use cost::SearchRange;
 use picture::Fault;
@@ -22,9 +22,7 @@ impl Cross {
     pub fn new(range: i64) -> Result<Cross, Fault>
         ensures { Answers result (range_fault range) (λ c. pos c.range.value ≡ range) }
     {
-        Ok(Cross {
-            range: SearchRange::new(range)?,
-        })
+        SearchRange::new(range).map(|range| Cross { range })
     }
 }
 
@@ -40,29 +38,31 @@ fn along_line(i: usize) -> i16
 impl Pattern for Cross {
     ghost offsets = { λ c. cross c.range.value };
 
-    ghost few = { λ p. omega (arith, length_cross p.range.value p.range.ok) };
+    ghost few = { λ p. cross_few p.range.value p.range.ok };
 
     ghost short = { λ p k. cross_short p.range.value k p.range.ok };
 
+    #[tactic(auto, using(crate::specs::Arms::length_cross))]
     fn len(&self) -> usize {
         let across = self.range.value as usize;
         across + across / 2
     }
 
+    #[tactic(auto, using(crate::specs::Arms::length_cross))]
     fn offset(&self, i: usize) -> Vector {
         let across = self.range.value as usize;
         if i < across {
-            return Vector {
+            Vector {
                 x: along_line(i),
-                y: 0,
-            };
-        }
-        if i < across + across / 2 {
-            return Vector {
-                x: 0,
+                ..STILL
+            }
+        } else if i < self.len() {
+            Vector {
                 y: along_line(i - across),
-            };
+                ..STILL
+            }
+        } else {
+            STILL
         }
-        Vector { x: 0, y: 0 }
     }
 }

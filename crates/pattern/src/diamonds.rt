@@ -1,43 +1,29 @@
 //! The diamond and the hexagon.
-ghost use Rattle.std.specs.Prelude.{◌≡◌, map};
-ghost use Rattle.pattern.specs.Offsets.{paired};
+ghost use Rattle.std.specs.Prelude.{refl};
 ghost use Rattle.pattern.specs.Patterns.{diamond, hexagon};
-ghost use Rattle.std.proofs.Common.{rules};
+ghost use Rattle.std.proofs.Math.Dec.{lit≤};
 
-use crate::patterns::{Pattern, pick};
+use crate::tables::Listed;
 use rate::Vector;
-
-/// The offsets of the diamond.
-fn diamond_table() -> &'static [(i16, i16); 4]
-    ensures { map paired result.now ≡ diamond }
-{
-    &[(1, 0), (-1, 0), (0, 1), (0, -1)]
-}
-
-/// The offsets of the hexagon.
-fn hexagon_table() -> &'static [(i16, i16); 6]
-    ensures { map paired result.now ≡ hexagon }
-{
-    &[(2, 0), (-2, 0), (1, 2), (1, -2), (-1, 2), (-1, -2)]
-}
 
 /// One step to the right, left, down and up.
 #[derive(Clone, Copy)]
 pub struct Diamond;
 
-impl Pattern for Diamond {
-    ghost offsets = { λ _. diamond };
+impl Listed for Diamond {
+    ghost listed = { diamond };
 
-    ghost few = { Prim.search rules };
+    ghost few = { lit≤ tt };
 
-    ghost short = { Prim.search rules };
+    ghost short = { refl };
 
-    fn len(&self) -> usize {
-        diamond_table().len()
-    }
-
-    fn offset(&self, i: usize) -> Vector {
-        pick(diamond_table(), i)
+    fn table() -> &'static [Vector] {
+        &[
+            Vector { x: 1, y: 0 },
+            Vector { x: -1, y: 0 },
+            Vector { x: 0, y: 1 },
+            Vector { x: 0, y: -1 },
+        ]
     }
 }
 
@@ -45,18 +31,21 @@ impl Pattern for Diamond {
 #[derive(Clone, Copy)]
 pub struct Hexagon;
 
-impl Pattern for Hexagon {
-    ghost offsets = { λ _. hexagon };
+impl Listed for Hexagon {
+    ghost listed = { hexagon };
 
-    ghost few = { Prim.search rules };
+    ghost few = { lit≤ tt };
 
-    ghost short = { Prim.search rules };
+    ghost short = { refl };
 
-    fn len(&self) -> usize {
-        hexagon_table().len()
-    }
-
-    fn offset(&self, i: usize) -> Vector {
-        pick(hexagon_table(), i)
+    fn table() -> &'static [Vector] {
+        &[
+            Vector { x: 2, y: 0 },
+            Vector { x: -2, y: 0 },
+            Vector { x: 1, y: 2 },
+            Vector { x: 1, y: -2 },
+            Vector { x: -1, y: 2 },
+            Vector { x: -1, y: -2 },
+        ]
     }
 }

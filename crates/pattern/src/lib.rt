@@ -7,9 +7,11 @@ mod offsets;
 mod patterns;
 mod rings;
 mod squares;
+mod tables;
 
 pub use crosses::Cross;
 pub use diamonds::{Diamond, Hexagon};
 pub use patterns::Pattern;
 pub use rings::Rings;
 pub use squares::{Eight, Square};
+pub use tables::Listed;

@@ -1,24 +1,20 @@
-//! Multiples of offsets.
-ghost use Rattle.std.specs.Prelude.{◌≡◌, ◌*◌, ◌≤◌, pos, ◌*ℤ◌, unsigned_abs};
+//! Offsets and their multiples.
+ghost use Rattle.std.specs.Prelude.{◌≡◌};
 ghost use Rattle.pattern.specs.Offsets.{times, Within};
 
 use rate::Vector;
 
-/// `k` times a component, which stays small.
-fn multiple(k: u8, z: i16) -> i16
-    requires { unsigned_abs (pos k *ℤ z) ≤ 4355 }
-    ensures { result ≡ pos k *ℤ z }
-{
-    k as i16 * z
-}
+/// The offset that moves nothing.
+pub(crate) const STILL: Vector = Vector { x: 0, y: 0 };
 
 /// `k` times an offset, which stays small.
 pub(crate) fn stretched(k: u8, offset: Vector) -> Vector
     requires { Within 4355 (times k offset) }
     ensures { result ≡ times k offset }
 {
+    let multiple = |z: i16| i16::from(k) * z;
     Vector {
-        x: multiple(k, offset.x),
-        y: multiple(k, offset.y),
+        x: multiple(offset.x),
+        y: multiple(offset.y),
     }
 }

@@ -1,7 +1,7 @@
 //! The interface of a pattern. A buyer's own pattern implements this.
-ghost use Rattle.std.specs.Prelude.{◌≡◌, ℕ, ◌≤◌, List, map, length, slice_index_or};
+ghost use Rattle.std.specs.Prelude.{◌≡◌, ℕ, ◌≤◌, List, length, slice_index_or};
 ghost use Rattle.rate.specs.declared.vectors.Vector.{Vector as Offset};
-ghost use Rattle.pattern.specs.Offsets.{paired, still, Within};
+ghost use Rattle.pattern.specs.Offsets.{still, Within};
 
 use rate::Vector;
 
@@ -23,15 +23,4 @@ pub trait Pattern {
 
     /// Every component is from -64 to 64.
     ghost short: { (p : Self) (k : ℕ) → Within 64 (slice_index_or (offsets p) k still) };
-}
-
-/// The offset at an index of a table; (0, 0) past its end.
-pub(crate) fn pick(table: &[(i16, i16)], i: usize) -> Vector
-    ensures { result ≡ slice_index_or (map paired table.now) i still }
-{
-    if i >= table.len() {
-        return Vector { x: 0, y: 0 };
-    }
-    let (x, y) = table[i];
-    Vector { x, y }
 }

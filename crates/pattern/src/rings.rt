@@ -1,14 +1,14 @@
 //! The rings of a search range.
-ghost use Rattle.std.specs.Prelude.{◌≡◌, map, pos};
+ghost use Rattle.std.specs.Prelude.{◌≡◌, pos, refl};
 ghost use Rattle.picture.specs.Faults.{Answers};
 ghost use Rattle.cost.specs.Ranges.{range_fault};
-ghost use Rattle.pattern.specs.Offsets.{paired};
 ghost use Rattle.pattern.specs.Patterns.{rings, sixteen};
-ghost use Rattle.std.proofs.Common.{arith};
-ghost use Rattle.pattern.specs.Arms.{length_rings, rings_short};
+ghost use Rattle.std.proofs.Math.Dec.{lit≤};
+ghost use Rattle.pattern.specs.Arms.{rings_few, rings_short};
 
-use crate::offsets::stretched;
-use crate::patterns::{Pattern, pick};
+use crate::offsets::{STILL, stretched};
+use crate::patterns::Pattern;
+use crate::tables::Listed;
 use cost::SearchRange;
 use picture::Fault;
 use rate::Vector;
@@ -24,51 +24,61 @@ impl Rings {
     pub fn new(range: i64) -> Result<Rings, Fault>
         ensures { Answers result (range_fault range) (λ p. pos p.range.value ≡ range) }
     {
-        Ok(Rings {
-            range: SearchRange::new(range)?,
-        })
+        SearchRange::new(range).map(|range| Rings { range })
     }
 }
 
-/// The points of ring 1, a group to a line.
-fn sixteen_table() -> &'static [(i16, i16); 16]
-    ensures { map paired result.now ≡ sixteen }
-{
-    &[
-        (4, 2),
-        (4, -2),
-        (-4, 2),
-        (-4, -2),
-        (4, 1),
-        (4, -1),
-        (-4, 1),
-        (-4, -1),
-        (4, 0),
-        (-4, 0),
-        (2, 3),
-        (2, -3),
-        (-2, 3),
-        (-2, -3),
-        (0, 4),
-        (0, -4),
-    ]
+/// The points of ring 1, which the others are multiples of.
+struct RingOne;
+
+impl Listed for RingOne {
+    ghost listed = { sixteen };
+
+    ghost few = { unfold sixteen in lit≤ tt };
+
+    ghost short = { unfold sixteen in refl };
+
+    #[tactic(auto, unfolding(crate::specs::Patterns::sixteen))]
+    fn table() -> &'static [Vector] {
+        &[
+            Vector { x: 4, y: 2 },
+            Vector { x: 4, y: -2 },
+            Vector { x: -4, y: 2 },
+            Vector { x: -4, y: -2 },
+            Vector { x: 4, y: 1 },
+            Vector { x: 4, y: -1 },
+            Vector { x: -4, y: 1 },
+            Vector { x: -4, y: -1 },
+            Vector { x: 4, y: 0 },
+            Vector { x: -4, y: 0 },
+            Vector { x: 2, y: 3 },
+            Vector { x: 2, y: -3 },
+            Vector { x: -2, y: 3 },
+            Vector { x: -2, y: -3 },
+            Vector { x: 0, y: 4 },
+            Vector { x: 0, y: -4 },
+        ]
+    }
 }
 
 impl Pattern for Rings {
     ghost offsets = { λ p. rings p.range.value };
 
-    ghost few = { λ p. omega (arith, length_rings p.range.value p.range.ok) };
+    ghost few = { λ p. rings_few p.range.value p.range.ok };
 
     ghost short = { λ p k. rings_short p.range.value k p.range.ok };
 
+    #[tactic(auto, using(crate::specs::Arms::length_rings))]
     fn len(&self) -> usize {
         4 * self.range.value as usize
     }
 
+    #[tactic(auto, using(crate::specs::Arms::length_rings))]
     fn offset(&self, i: usize) -> Vector {
-        if i >= 4 * self.range.value as usize {
-            return Vector { x: 0, y: 0 };
+        if i < self.len() {
+            stretched(1 + (i / 16) as u8, RingOne.offset(i % 16))
+        } else {
+            STILL
         }
-        stretched(1 + (i / 16) as u8, pick(sixteen_table(), i % 16))
     }
 }

@@ -1,117 +1,110 @@
 //! The square, and the eights: the border of a square.
-ghost use Rattle.std.specs.Prelude.{◌≡◌, map};
-ghost use Rattle.pattern.specs.Offsets.{paired};
+ghost use Rattle.std.specs.Prelude.{◌≡◌, refl};
 ghost use Rattle.pattern.specs.Patterns.{distance_of, eight, square};
 ghost use Rattle.std.proofs.Math.Dec.{lit≤};
-ghost use Rattle.pattern.specs.Shorts.{each_within};
-ghost use Rattle.pattern.specs.declared.squares.Eight.TheVariants.{One, Two};
+ghost use Rattle.pattern.specs.Arms.{eight_few, eight_short};
 
 use crate::offsets::stretched;
-use crate::patterns::{Pattern, pick};
+use crate::patterns::Pattern;
+use crate::tables::Listed;
 use rate::Vector;
-
-/// The offsets of the square, a row to a line.
-fn square_table() -> &'static [(i16, i16); 25]
-    ensures { map paired result.now ≡ square }
-{
-    &[
-        (-2, -2),
-        (-1, -2),
-        (0, -2),
-        (1, -2),
-        (2, -2),
-        (-2, -1),
-        (-1, -1),
-        (0, -1),
-        (1, -1),
-        (2, -1),
-        (-2, 0),
-        (-1, 0),
-        (0, 0),
-        (1, 0),
-        (2, 0),
-        (-2, 1),
-        (-1, 1),
-        (0, 1),
-        (1, 1),
-        (2, 1),
-        (-2, 2),
-        (-1, 2),
-        (0, 2),
-        (1, 2),
-        (2, 2),
-    ]
-}
-
-/// The offsets of the eight of distance 1.
-fn eight_table() -> &'static [(i16, i16); 8]
-    ensures { map paired result.now ≡ eight 1 }
-{
-    &[
-        (-1, -1),
-        (0, -1),
-        (1, -1),
-        (-1, 0),
-        (1, 0),
-        (-1, 1),
-        (0, 1),
-        (1, 1),
-    ]
-}
 
 /// Both components from -2 to 2, (0, 0) among them.
 #[derive(Clone, Copy)]
 pub struct Square;
 
-impl Pattern for Square {
-    ghost offsets = { λ _. square };
+impl Listed for Square {
+    ghost listed = { square };
 
-    ghost few = { unfold square in λ p. lit≤ tt };
+    ghost few = { unfold square in lit≤ tt };
 
-    ghost short = { unfold square in λ p k. each_within 64 square tt k };
+    ghost short = { unfold square in refl };
 
-    fn len(&self) -> usize {
-        square_table().len()
-    }
-
-    fn offset(&self, i: usize) -> Vector {
-        pick(square_table(), i)
+    #[tactic(auto, unfolding(crate::specs::Patterns::square))]
+    fn table() -> &'static [Vector] {
+        &[
+            Vector { x: -2, y: -2 },
+            Vector { x: -1, y: -2 },
+            Vector { x: 0, y: -2 },
+            Vector { x: 1, y: -2 },
+            Vector { x: 2, y: -2 },
+            Vector { x: -2, y: -1 },
+            Vector { x: -1, y: -1 },
+            Vector { x: 0, y: -1 },
+            Vector { x: 1, y: -1 },
+            Vector { x: 2, y: -1 },
+            Vector { x: -2, y: 0 },
+            Vector { x: -1, y: 0 },
+            Vector { x: 0, y: 0 },
+            Vector { x: 1, y: 0 },
+            Vector { x: 2, y: 0 },
+            Vector { x: -2, y: 1 },
+            Vector { x: -1, y: 1 },
+            Vector { x: 0, y: 1 },
+            Vector { x: 1, y: 1 },
+            Vector { x: 2, y: 1 },
+            Vector { x: -2, y: 2 },
+            Vector { x: -1, y: 2 },
+            Vector { x: 0, y: 2 },
+            Vector { x: 1, y: 2 },
+            Vector { x: 2, y: 2 },
+        ]
     }
 }
 
 /// The eight offsets round (0, 0) at a distance of 1 or 2.
 #[derive(Clone, Copy)]
 pub enum Eight {
-    One,
-    Two,
+    One = 1,
+    Two = 2,
 }
 
-/// The distance of an eight.
-fn distance_of(eight: Eight) -> u8
-    ensures { result ≡ distance_of eight }
-{
-    match eight {
-        Eight::One => 1,
-        Eight::Two => 2,
+/// The eight of distance 1, which both are multiples of.
+struct Nearest;
+
+impl Listed for Nearest {
+    ghost listed = { eight 1 };
+
+    ghost few = { unfold eight in lit≤ tt };
+
+    ghost short = { unfold eight in refl };
+
+    #[tactic(auto, unfolding(crate::specs::Patterns::eight))]
+    fn table() -> &'static [Vector] {
+        &[
+            Vector { x: -1, y: -1 },
+            Vector { x: 0, y: -1 },
+            Vector { x: 1, y: -1 },
+            Vector { x: -1, y: 0 },
+            Vector { x: 1, y: 0 },
+            Vector { x: -1, y: 1 },
+            Vector { x: 0, y: 1 },
+            Vector { x: 1, y: 1 },
+        ]
+    }
+}
+
+impl Eight {
+    /// How far its offsets are from (0, 0).
+    fn distance(self) -> u8
+        ensures { result ≡ distance_of self }
+    {
+        self as u8
     }
 }
 
 impl Pattern for Eight {
     ghost offsets = { λ e. eight (distance_of e) };
 
-    ghost few = { unfold eight in elim [ One ↦ lit≤ tt | Two ↦ lit≤ tt ] };
+    ghost few = { eight_few };
 
-    ghost short = { unfold eight in
-        elim [
-          | One ↦ λ k. each_within 64 (eight 1) tt k
-          | Two ↦ λ k. each_within 64 (eight 2) tt k
-        ] };
+    ghost short = { eight_short };
 
     fn len(&self) -> usize {
-        eight_table().len()
+        Nearest.len()
     }
 
     fn offset(&self, i: usize) -> Vector {
-        stretched(distance_of(*self), pick(eight_table(), i))
+        stretched(self.distance(), Nearest.offset(i))
     }
 }
