@@ -17,12 +17,14 @@ pub struct Cross {
     pub range: SearchRange,
 }
 
-impl Cross {
-    /// The cross of a range, which is vetted.
-    pub fn new(range: i64) -> Result<Cross, Fault>
-        ensures { Answers result (range_fault range) (λ c. pos c.range.value ≡ range) }
-    {
-        SearchRange::new(range).map(|range| Cross { range })
+/// The cross of a range, which is vetted.
+impl TryFrom<i64> for Cross {
+    type Error = Fault;
+
+    ghost try_from_gives = { λ range answer. Answers answer (range_fault range) (λ c. pos c.range.value ≡ range) };
+
+    fn try_from(range: i64) -> Result<Cross, Fault> {
+        SearchRange::try_from(range).map(|range| Cross { range })
     }
 }
 

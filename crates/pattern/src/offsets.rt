@@ -12,9 +12,5 @@ pub(crate) fn stretched(k: u8, offset: Vector) -> Vector
     requires { Within 4355 (times k offset) }
     ensures { result ≡ times k offset }
 {
-    let multiple = |z: i16| i16::from(k) * z;
-    Vector {
-        x: multiple(offset.x),
-        y: multiple(offset.y),
-    }
+    offset * k as i16
 }

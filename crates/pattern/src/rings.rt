@@ -19,12 +19,14 @@ pub struct Rings {
     pub range: SearchRange,
 }
 
-impl Rings {
-    /// The rings of a range, which is vetted.
-    pub fn new(range: i64) -> Result<Rings, Fault>
-        ensures { Answers result (range_fault range) (λ p. pos p.range.value ≡ range) }
-    {
-        SearchRange::new(range).map(|range| Rings { range })
+/// The rings of a range, which is vetted.
+impl TryFrom<i64> for Rings {
+    type Error = Fault;
+
+    ghost try_from_gives = { λ range answer. Answers answer (range_fault range) (λ p. pos p.range.value ≡ range) };
+
+    fn try_from(range: i64) -> Result<Rings, Fault> {
+        SearchRange::try_from(range).map(|range| Rings { range })
     }
 }
 

@@ -26,7 +26,7 @@ predicted_near : (p : Predicted) (r : ℕ) → Within 4096 (predicted_at p r)
 predicted_near p r = by (nat_lt r p.pictures) refl
   where
     by : (b : Bool) → nat_lt r p.pictures ≡ b → Within 4096 (predicted_at p r)
-    by true e = rw e (p.near.0 r, p.near.1 r)
+    by true e = rw e (p.near r)
     by false e = rw e (omega arith, omega arith)
 
 -- centres of whole samples are from -1,024 to 1,024

@@ -3,7 +3,7 @@ use Rattle.std.specs.Prelude.{ℕ, Some, None, Option, ◌==◌, nat_lt}
 use Rattle.rate.specs.declared.vectors.Vector.{Vector}
 use Rattle.cost.specs.declared.predicted.Predicted.{Predicted}
 use Rattle.cost.specs.declared.setups.Setup.{Setup}
-use Rattle.cost.specs.Prices.{centre_in}
+use Rattle.cost.specs.Centres.{centre_in}
 use Rattle.cost.specs.Predicted.{vector_at}
 use Rattle.pattern.specs.Offsets.{still}
 use Rattle.window.specs.Windows.{Window, in_quarters}
@@ -28,7 +28,7 @@ or_still None = still
 
 -- the predicted vector of picture r, (0, 0) if there is no such picture
 abbrev pub predicted_at : Predicted → ℕ → Vector
-predicted_at p r = or_still (vector_at p.pictures p.xs p.ys r)
+predicted_at p r = or_still (vector_at p.pictures p.vectors r)
 
 -- the first stage of a setup
 abbrev pub whole_of : Setup → Window

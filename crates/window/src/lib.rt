@@ -1,7 +1,6 @@
 //! Windows and stages: where a search may look, in which unit, and in which order a full round goes.
 #![tactic(auto)]
 
-mod moves;
 mod quarters;
 mod rounds;
 mod stages;

@@ -15,7 +15,7 @@ pub(crate) struct Spot {
 }
 
 /// All vectors of a window, by growing distance from its centre; `spot` is the next.
-#[derive(Clone, Copy)]
+#[derive(Clone, Copy, Drop)]
 pub struct Round {
     pub(crate) centre: Vector,
     pub(crate) reach: u8,

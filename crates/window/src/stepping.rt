@@ -1,14 +1,15 @@
 //! Steps through a full round.
-ghost use Rattle.std.specs.Prelude.{◌≡◌, ℕ, ◌+◌, ◌*◌, ◌≤◌, [], ◌∷◌, pos, ◌-ℤ◌, MatchOption, unsigned_abs};
+ghost use Rattle.std.specs.Prelude.{◌≡◌, ℕ, ◌+◌, ◌*◌, ◌≤◌, ◌∷◌, pos, ◌-ℤ◌, unsigned_abs};
+ghost use Rattle.std.specs.Iterator.{YieldsFirst, item_count};
 ghost use Rattle.window.specs.Lefts.{left};
 ghost use Rattle.pattern.specs.Offsets.{Within};
 ghost use Rattle.window.specs.Rests.{rest_from, spot_at};
 ghost use Rattle.window.specs.Rounds.{Covers, round_of};
 
-use crate::moves::moved_by;
 use crate::rounds::{Round, Spot};
 use crate::stages::Stage;
 use rate::Vector;
+use std::iter::FusedIterator;
 
 /// The place after another: along a row, across the inside of the ring, down to the next row, or out to the next ring.
 fn after(spot: Spot) -> Spot
@@ -82,16 +83,24 @@ impl Round {
             },
         }
     }
+}
 
-    /// The next vector, as long as one is left.
-    pub fn next(&mut self) -> Option<Vector>
-        ensures { MatchOption result ((left self.old ≡ []) × (left self.new ≡ [])) (λ v. left self.old ≡ v ∷ left self.new) }
-    {
+/// The next vector, as long as one is left.
+impl Iterator for Round {
+    type Item = Vector;
+
+    ghost next_gives = { YieldsFirst left };
+
+    ghost remaining = { item_count left };
+
+    fn next(&mut self) -> Option<Vector> {
         if self.spot.ring > self.reach {
             return None;
         }
-        let vector = moved_by(self.centre, offset_at(self.spot));
+        let vector = self.centre + offset_at(self.spot);
         self.spot = after(self.spot);
         Some(vector)
     }
 }
+
+impl FusedIterator for Round {}

@@ -1,6 +1,6 @@
 //! The first stage, in whole samples.
 ghost use Rattle.std.specs.Prelude.{◌≡◌, true, false, MatchOption};
-ghost use Rattle.pattern.specs.Offsets.{times, Within};
+ghost use Rattle.pattern.specs.Offsets.{Within};
 ghost use Rattle.window.specs.Stages.{whole_of};
 ghost use Rattle.window.specs.Handing.{Handed, is_inside};
 ghost use Rattle.window.specs.Windows.{inside, quartered};
@@ -10,6 +10,7 @@ ghost use Rattle.std.proofs.Common.{arith, rules};
 use crate::quarters::Quarter;
 use crate::stages::Stage;
 use crate::windows::contains;
+use candidate::Candidate;
 use cost::{Setup, centre_of};
 use rate::Vector;
 
@@ -19,39 +20,29 @@ pub struct Whole {
     pub setup: Setup,
 }
 
-/// Four times a vector.
-fn fourfold(vector: Vector) -> Vector
-    requires { Within 4416 vector }
-    ensures { result ≡ times 4 vector }
-{
-    Vector {
-        x: 4 * vector.x,
-        y: 4 * vector.y,
-    }
-}
-
 impl Whole {
-    /// The second stage about a vector of a window.
-    fn about(self, picture: usize, vector: Vector) -> Quarter
-        requires named { (whole_of self.setup).named picture ≡ true }
-        requires within { inside (whole_of self.setup) picture vector ≡ true }
-        ensures { Handed self.setup picture vector result }
+    /// The second stage about a candidate of a window.
+    fn about(self, handed: Candidate) -> Quarter
+        requires named { (whole_of self.setup).named handed.picture ≡ true }
+        requires within { inside (whole_of self.setup) handed.picture handed.vector ≡ true }
+        ensures { Handed self.setup handed.picture handed.vector result }
     {
         Quarter {
             setup: self.setup,
-            picture,
-            vector: self.quarters(vector),
+            picture: handed.picture,
+            vector: self.quarters(handed.vector),
         }
     }
 
-    /// The second stage, about a vector of a picture's window; nothing where the picture may not be named or the vector lies outside.
-    pub fn hand_over(self, picture: usize, vector: Vector) -> Option<Quarter>
-        ensures { MatchOption result (is_inside self.setup picture vector ≡ false) (λ q. (is_inside self.setup picture vector ≡ true) × Handed self.setup picture vector q) }
+    /// The second stage, about a candidate; nothing where its picture may not be named or its vector lies outside the picture's window.
+    pub fn hand_over(self, candidate: Candidate) -> Option<Quarter>
+        ensures { MatchOption result (is_inside self.setup candidate.picture candidate.vector ≡ false) (λ q. (is_inside self.setup candidate.picture candidate.vector ≡ true) × Handed self.setup candidate.picture candidate.vector q) }
     {
-        if self.names(picture) && contains(&self, picture, vector) {
-            return Some(self.about(picture, vector));
+        if self.names(candidate.picture) && contains(&self, candidate) {
+            Some(self.about(candidate))
+        } else {
+            None
         }
-        None
     }
 }
 
@@ -77,10 +68,7 @@ impl Stage for Whole {
     }
 
     fn centre(&self, picture: usize) -> Vector {
-        match self.setup.predicted.get(picture) {
-            Some(predicted) => centre_of(predicted),
-            None => Vector { x: 0, y: 0 },
-        }
+        self.setup.predicted.get(picture).map_or(Vector { x: 0, y: 0 }, |predicted| centre_of(predicted))
     }
 
     fn reach(&self) -> u8 {
@@ -88,6 +76,6 @@ impl Stage for Whole {
     }
 
     fn quarters(&self, vector: Vector) -> Vector {
-        fourfold(vector)
+        vector * 4
     }
 }
