@@ -13,7 +13,7 @@ Counted b h =
 -- the header has the numbers that the bytes give for the block
 abbrev pub Placed : List ℕ → Header → Type 0
 Placed b h =
-    (h.left ≡ left_in b) × (h.top ≡ top_in b) × (h.block_width ≡ block_width_in b) × (h.block_height ≡ block_height_in b)
+    (h.request.left ≡ left_in b) × (h.request.top ≡ top_in b) × (h.request.width ≡ block_width_in b) × (h.request.height ≡ block_height_in b)
 
 -- and for the settings
 abbrev pub Configured : List ℕ → Header → Type 0
@@ -28,5 +28,5 @@ abbrev pub HeadedBy : Head → Header → Type 0
 HeadedBy d h =
     (pos h.list.picture.width ≡ d.width) × (pos h.list.picture.height ≡ d.height) ×
     (pos h.list.pictures ≡ d.pictures) × (pos h.proposals ≡ d.proposals) ×
-    (h.left ≡ d.left) × (h.top ≡ d.top) × (h.block_width ≡ d.block_width) × (h.block_height ≡ d.block_height) ×
+    (h.request ≡ d.request) ×
     (h.qp ≡ d.qp) × (h.range ≡ d.range)

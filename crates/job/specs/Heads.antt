@@ -9,9 +9,9 @@ pub record IsHead (b : List ℕ) (h : Head) : Type 0 where
   pub height : h.height ≡ height_in b
   pub pictures : h.pictures ≡ pictures_in b
   pub proposals : h.proposals ≡ proposals_in b
-  pub left : h.left ≡ left_in b
-  pub top : h.top ≡ top_in b
-  pub block_width : h.block_width ≡ block_width_in b
-  pub block_height : h.block_height ≡ block_height_in b
+  pub left : h.request.left ≡ left_in b
+  pub top : h.request.top ≡ top_in b
+  pub block_width : h.request.width ≡ block_width_in b
+  pub block_height : h.request.height ≡ block_height_in b
   pub qp : h.qp ≡ qp_in b
   pub range : h.range ≡ range_in b

@@ -1,6 +1,7 @@
 //! The numbers at the head of a job.
 ghost use Rattle.std.specs.Prelude.{◌≤◌};
 
+use block::BlockRequest;
 use picture::ListSize;
 
 /// The ten numbers as they stand.
@@ -10,10 +11,7 @@ pub(crate) struct Head {
     pub height: i64,
     pub pictures: i64,
     pub proposals: i64,
-    pub left: i64,
-    pub top: i64,
-    pub block_width: i64,
-    pub block_height: i64,
+    pub request: BlockRequest,
     pub qp: i64,
     pub range: i64,
 }
@@ -23,10 +21,7 @@ pub(crate) struct Head {
 pub struct Header {
     pub list: ListSize,
     pub proposals: usize,
-    pub left: i64,
-    pub top: i64,
-    pub block_width: i64,
-    pub block_height: i64,
+    pub request: BlockRequest,
     pub qp: i64,
     pub range: i64,
     ghost few: { proposals ≤ 64 },

@@ -1,10 +1,14 @@
 //! A job over its bytes.
 ghost use Rattle.std.specs.Prelude.{◌≡◌, ℕ, ◌+◌, ◌<◌, pos, slice_index_or};
 ghost use Rattle.job.specs.Format.{word};
+ghost use Rattle.picture.specs.Faults.{Answers};
+ghost use Rattle.job.specs.Vetting.{job_fault};
 ghost use Rattle.job.specs.Headers.{Counted, Placed, Configured, Told};
 
 use crate::headers::Header;
 use crate::reading::read_words;
+use crate::vetting::vet_job;
+use picture::Fault;
 
 /// An accepted job. It keeps the vectors and lends the pictures, which are not copied.
 #[derive(Clone, Copy)]
@@ -36,5 +40,17 @@ impl<'a> Job<'a> {
             xs,
             ys,
         }
+    }
+}
+
+/// Vets a job's bytes and reads them.
+impl<'a> TryFrom<&'a [u8]> for Job<'a> {
+    type Error = Fault;
+
+    ghost try_from_gives = { λ bytes answer. Answers answer (job_fault bytes.now) (λ job. job.bytes.now ≡ bytes.now) };
+
+    fn try_from(bytes: &'a [u8]) -> Result<Job<'a>, Fault> {
+        let header = vet_job(bytes)?;
+        Ok(Job::new(header, bytes))
     }
 }

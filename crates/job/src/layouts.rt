@@ -1,6 +1,6 @@
 //! Where the parts of a job lie.
 ghost use Rattle.std.specs.Prelude.{◌≡◌, ◌≤◌};
-ghost use Rattle.job.specs.Layouts.{pixels_from, pixels, stated};
+ghost use Rattle.job.specs.Layouts.{pixels_from, stated};
 
 use crate::headers::Header;
 
@@ -13,18 +13,10 @@ impl Header {
         20 + 4 * (self.list.pictures + self.proposals)
     }
 
-    /// The number of a picture's bytes.
-    pub(crate) fn pixels(&self) -> usize
-        ensures value { result ≡ pixels self.now }
-        ensures most { result ≤ 3686400 }
-    {
-        self.list.picture.height * self.list.picture.width
-    }
-
     /// The number of bytes that the job is to have.
     pub(crate) fn stated_length(&self) -> usize
         ensures { result ≡ stated self.now }
     {
-        self.pixels_from() + self.pixels() * (self.list.pictures + 1)
+        self.pixels_from() + self.list.picture.area() * (self.list.pictures + 1)
     }
 }

@@ -15,7 +15,7 @@ impl<'a> Job<'a> {
         let from = self.header.pixels_from();
         Plane::new(
             self.header.list.picture,
-            &self.bytes[from..from + self.header.pixels()],
+            &self.bytes[from..from + self.header.list.picture.area()],
         )
     }
 
@@ -24,7 +24,7 @@ impl<'a> Job<'a> {
         ensures size { result.size ≡ self.now.header.list }
         ensures samples { result.samples.now ≡ reference_in self.now.bytes.now }
     {
-        let from = self.header.pixels_from() + self.header.pixels();
+        let from = self.header.pixels_from() + self.header.list.picture.area();
         ReferencePictures::new(self.header.list, &self.bytes[from..])
     }
 

@@ -4,6 +4,7 @@ ghost use Rattle.job.specs.Format.{word};
 ghost use Rattle.job.specs.Heads.{IsHead};
 
 use crate::headers::Head;
+use block::BlockRequest;
 
 /// Number `k` of the job.
 pub(crate) fn word_at(bytes: &[u8], k: usize) -> i16
@@ -31,10 +32,12 @@ pub(crate) fn read_head(bytes: &[u8]) -> Head
         height: number_at(bytes, 1),
         pictures: number_at(bytes, 2),
         proposals: number_at(bytes, 3),
-        left: number_at(bytes, 4),
-        top: number_at(bytes, 5),
-        block_width: number_at(bytes, 6),
-        block_height: number_at(bytes, 7),
+        request: BlockRequest {
+            left: number_at(bytes, 4),
+            top: number_at(bytes, 5),
+            width: number_at(bytes, 6),
+            height: number_at(bytes, 7),
+        },
         qp: number_at(bytes, 8),
         range: number_at(bytes, 9),
     }
@@ -45,9 +48,9 @@ pub(crate) fn read_words(bytes: &[u8], from: usize, count: usize) -> [i16; 80]
     requires { (count ≤ 80) × (2 * (from + count) ≤ length bytes.now) }
     ensures { (k : ℕ) → k < count → slice_index_or result k (pos 0) ≡ word bytes.now (from + k) }
 {
-    let mut words = [0i16; 80];
-    for k in 0..count {
-        words[k] = word_at(bytes, from + k);
+    let mut words = [0; 80];
+    for (k, word) in words[..count].iter_mut().enumerate() {
+        *word = word_at(bytes, from + k);
     }
     words
 }

@@ -1,13 +1,13 @@
 //! Vetting of a job, before anything is made over its bytes.
 ghost use Rattle.std.specs.Prelude.{◌≡◌, ◌≤◌, length, None};
 ghost use Rattle.picture.specs.Faults.{Answers};
-ghost use Rattle.job.specs.Vetting.{extent_fault, head_fault, proposals_fault, length_fault, job_fault, InExtent, ProposalsAre};
+ghost use Rattle.job.specs.Vetting.{extent_fault, head_fault, proposals_fault, job_fault, InExtent, ProposalsAre};
 ghost use Rattle.job.specs.Layouts.{stated};
 ghost use Rattle.job.specs.Headers.{HeadedBy, Told};
 
 use crate::headers::{Head, Header};
 use crate::reading::read_head;
-use picture::{Fault, Layer, ListSize, Row, vet_count, vet_list, vet_picture, vet_size};
+use picture::{Fault, Layer, ListSize, Row, vet_bytes, vet_count, vet_list, vet_picture, vet_size};
 
 /// The most bytes that a job may have.
 const LONGEST: usize = 65_536;
@@ -16,50 +16,17 @@ const LONGEST: usize = 65_536;
 fn vet_extent(found: usize) -> Result<(), Fault>
     ensures { Answers result (extent_fault found) (λ _. InExtent found) }
 {
-    if found > LONGEST {
-        return Err(Fault {
-            row: Row::ByteLength,
-            layer: Layer::JobFile,
-            value: 65_537,
-        });
-    }
-    if found < 20 {
-        return Err(Fault {
-            row: Row::ByteLength,
-            layer: Layer::JobFile,
-            value: found as i64,
-        });
-    }
-    Ok(())
+    Fault::unless(found <= LONGEST, Row::ByteLength, Layer::JobFile, 65_537)?;
+    Fault::unless(found >= 20, Row::ByteLength, Layer::JobFile, found as i64)
 }
 
 /// Vets the number of proposals.
 fn vet_proposals(proposals: i64) -> Result<usize, Fault>
     ensures { Answers result (proposals_fault proposals) (ProposalsAre proposals) }
 {
-    if proposals < 0 || proposals > 64 {
-        return Err(Fault {
-            row: Row::ArrayLength,
-            layer: Layer::JobFile,
-            value: proposals,
-        });
-    }
+    let few = (0..=64).contains(&proposals);
+    Fault::unless(few, Row::ArrayLength, Layer::JobFile, proposals)?;
     Ok(proposals as usize)
-}
-
-/// Vets the job's length against the one stated.
-fn vet_length(stated: usize, found: usize) -> Result<(), Fault>
-    requires { found ≤ 65536 }
-    ensures { Answers result (length_fault stated found) (λ _. found ≡ stated) }
-{
-    if found != stated {
-        return Err(Fault {
-            row: Row::ByteLength,
-            layer: Layer::JobFile,
-            value: found as i64,
-        });
-    }
-    Ok(())
 }
 
 /// Vets the size of the pictures, their number and that of the proposals.
@@ -72,10 +39,7 @@ fn vet_head(head: Head) -> Result<Header, Fault>
     Ok(Header {
         list: ListSize { picture, pictures },
         proposals,
-        left: head.left,
-        top: head.top,
-        block_width: head.block_width,
-        block_height: head.block_height,
+        request: head.request,
         qp: head.qp,
         range: head.range,
     })
@@ -89,7 +53,7 @@ fn vet_pictures(header: &Header, bytes: &[u8]) -> Result<(), Fault>
     let width = header.list.picture.width as i64;
     let height = header.list.picture.height as i64;
     let from = header.pixels_from();
-    let split = from + header.pixels();
+    let split = from + header.list.picture.area();
     vet_picture(width, height, &bytes[from..split])?;
     vet_list(header.list.pictures as i64, width, height, &bytes[split..])?;
     Ok(())
@@ -101,7 +65,7 @@ pub fn vet_job(bytes: &[u8]) -> Result<Header, Fault>
 {
     vet_extent(bytes.len())?;
     let header = vet_head(read_head(bytes))?;
-    vet_length(header.stated_length(), bytes.len())?;
+    vet_bytes(Layer::JobFile, header.stated_length(), bytes)?;
     vet_pictures(&header, bytes)?;
     Ok(header)
 }

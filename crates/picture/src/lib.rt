@@ -14,4 +14,4 @@ pub use faults::{Fault, Layer, Row};
 pub use pictures::ReferencePictures;
 pub use planes::Plane;
 pub use sizes::{ListSize, PictureSize};
-pub use vetting::{vet_count, vet_list, vet_picture, vet_size};
+pub use vetting::{vet_bytes, vet_count, vet_list, vet_picture, vet_size};

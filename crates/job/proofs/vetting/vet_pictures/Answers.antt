@@ -4,5 +4,5 @@ use Rattle.job.proofs.vetting.vet_pictures.Goals as goal
 
 pub returns-in_err-vet_list : goal.returns-in_err-vet_list
 returns-in_err-vet_list c =
-    let r = rest_is (length c.args.bytes.now) c.pixels_from-from.result c.pixels.result c.args.header.now.list.pictures (search rules) in
+    let r = rest_is (length c.args.bytes.now) c.pixels_from-from.result c.area.result c.args.header.now.list.pictures (search rules) in
     search rules
