@@ -1,0 +1,8 @@
+//! What the bench programs open a job with: its bytes, then its block and its settings.
+#![tactic(auto)]
+
+mod inputs;
+mod openings;
+
+pub use inputs::read_job;
+pub use openings::{open, set_up};
