@@ -1,5 +1,5 @@
 -- Reading to the end of what is taken of an input.
-use Rattle.std.proofs.Common.{◌≡◌, ℕ, List, [], ◌++◌, take, Option, Some, None, IfSome, refl, subst}
+use Rattle.std.proofs.Common.{◌≡◌, ℕ, List, [], ◌++◌, take, Option, Some, None, IfSome, subst}
 use Rattle.std.specs.Option.{option_map}
 
 pub taken : (all rest : Option (List ℕ)) (n m : ℕ) (before after : List ℕ) → all ≡ rest → n ≡ m → before ≡ [] →

@@ -2,7 +2,9 @@
 #![tactic(auto)]
 
 mod inputs;
+mod lines;
 mod openings;
 
 pub use inputs::read_job;
+pub use lines::Line;
 pub use openings::{open, set_up};

@@ -1,3 +1,2 @@
 pub mod Arguments
-pub mod Prices
-pub mod Openings
+pub mod Lines

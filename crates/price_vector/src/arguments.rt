@@ -10,10 +10,11 @@ use rate::Vector;
 pub(crate) fn component(z: i64) -> Option<i16>
     ensures { result ≡ named_component z }
 {
-    if z < -4400 || z > 4400 {
-        return None;
+    if (-4400..=4400).contains(&z) {
+        Some(z as i16)
+    } else {
+        None
     }
-    Some(z as i16)
 }
 
 /// The component that a word names.

@@ -1,26 +1,17 @@
 //! `price_vector`: what vectors cost, for a job read from standard input: the centre of each window, or one vector that is named.
 #![tactic(auto)]
 
-ghost use Rattle.picture.specs.Faults.{Answers};
-ghost use Rattle.price_vector.specs.Openings.{opening_fault, OpenedBy};
-
 mod arguments;
-mod prices;
+mod lines;
 
 use anyhow::anyhow;
 use arguments::read_candidate;
-use block::BlockRequest;
 use candidate::Candidate;
 use cost::Setup;
-use job::{Job, vet_job};
-use picture::Fault;
-use prices::{centre_candidate, price_all};
+use lines::price_line;
+use opening::{open, read_job};
 use reference::ComputedList;
-use std::io::Read;
-use std::{env, io};
-
-/// One byte more than a job may have: enough to see that one is too long.
-const ENOUGH: u64 = 65_537;
+use std::env;
 
 const USAGE: &str = "usage: price_vector < JOB
        price_vector PICTURE X Y < JOB
@@ -62,7 +53,7 @@ fn read_arguments(rt: &HostRuntime) -> anyhow::Result<Asked> {
     let Some(first) = args.next() else {
         return Ok(Asked::Centres);
     };
-    if first.as_str() == "--help" || first.as_str() == "-h" {
+    if matches!(first.as_str(), "--help" | "-h") {
         return Ok(Asked::Help);
     }
     if let (Some(x), Some(y), None) = (args.next(), args.next(), args.next()) {
@@ -71,104 +62,55 @@ fn read_arguments(rt: &HostRuntime) -> anyhow::Result<Asked> {
     Err(anyhow!("price_vector takes no arguments, or three: PICTURE X Y; try price_vector --help"))
 }
 
-/// The job's bytes, and no more of a longer input than shows that it is too long.
-fn read_job(rt: &HostRuntime) -> io::Result<Vec<u8>> {
-    let mut bytes = Vec::new(rt.alloc());
-    rt.stdin().take(ENOUGH).read_to_end(&mut bytes)?;
-    Ok(bytes)
-}
-
 /// Reads a job and prints its prices, or its refusal.
 fn answer(rt: &HostRuntime, named: Option<Candidate>) -> anyhow::Result<()> {
-    let bytes = read_job(rt)?;
-    match vet_job(bytes.as_slice()) {
-        Ok(header) => price(rt, &Job::new(header, bytes.as_slice()), named),
-        Err(fault) => refuse(rt, fault),
+    let bytes = read_job(rt.stdin(), rt.alloc())?;
+    match open(bytes.as_slice()) {
+        Ok((job, setup)) => print_prices(rt, &setup, &ComputedList::new(job.reference()), named)?,
+        Err(fault) => println!(rt; "{fault}")?,
     }
-}
-
-/// Prints a refusal.
-fn refuse(rt: &HostRuntime, fault: Fault) -> anyhow::Result<()> {
-    println!(rt; "{fault}")?;
     Ok(())
 }
 
-/// Prints the named vector's line, or one for each picture of an accepted job, or the refusal of its block or its settings.
-fn price(rt: &HostRuntime, job: &Job<'_>, named: Option<Candidate>) -> anyhow::Result<()> {
-    let setup = match set_up(job) {
-        Ok(setup) => setup,
-        Err(fault) => return refuse(rt, fault),
-    };
-    let list = ComputedList::new(job.reference());
-    match named {
-        Some(candidate) => print_named(rt, &setup, &list, candidate),
-        None => print_centres(rt, &setup, &list),
+/// Prints the named vector's line, or one for the centre of each picture's window.
+fn print_prices(
+    rt: &HostRuntime,
+    setup: &Setup,
+    list: &ComputedList<'_>,
+    named: Option<Candidate>,
+) -> anyhow::Result<()> {
+    if let Some(candidate) = named {
+        return print_price(rt, setup, list, candidate);
     }
-}
-
-/// Prints a line for the centre of each picture's window.
-fn print_centres(rt: &HostRuntime, setup: &Setup, list: &ComputedList<'_>) -> anyhow::Result<()> {
     for picture in 0..setup.predicted.pictures {
-        if let Some(candidate) = centre_candidate(setup, picture) {
-            print_named(rt, setup, list, candidate)?;
+        if let Some(centre) = Candidate::centre(setup, picture) {
+            print_price(rt, setup, list, centre)?;
         }
     }
     Ok(())
 }
 
 /// Prints the line of one vector, or says why it has no price.
-fn print_named(
+fn print_price(
     rt: &HostRuntime,
     setup: &Setup,
     list: &ComputedList<'_>,
     candidate: Candidate,
 ) -> anyhow::Result<()> {
-    let picture = candidate.picture;
-    let x = candidate.vector.x;
-    let y = candidate.vector.y;
-    match price_all(setup, list, candidate) {
-        Some(costs) => {
-            let rate = costs.rate_part;
-            let sad = costs.sad;
-            let ssd = costs.ssd;
-            let satd = costs.satd;
-            println!(rt; "{picture} {x} {y} {rate} {sad} {ssd} {satd}")?;
-            Ok(())
-        }
-        None => Err(unpriced(setup, picture)),
-    }
+    let Some(line) = price_line(setup, list, candidate) else {
+        return Err(unpriced(setup, candidate));
+    };
+    println!(rt; "{line}")?;
+    Ok(())
 }
 
-/// Why a vector in that picture has no price.
-fn unpriced(setup: &Setup, picture: usize) -> anyhow::Error {
-    if picture >= setup.predicted.pictures {
+/// Why a candidate has no price.
+fn unpriced(setup: &Setup, candidate: Candidate) -> anyhow::Error {
+    if candidate.picture >= setup.predicted.pictures {
         anyhow!("the job has no reference picture of that number")
     } else {
         anyhow!("a component is more than 261 quarter samples from the picture's predicted vector")
     }
-}
-
-/// The block and the settings that a job asks for.
-fn set_up(job: &Job<'_>) -> Result<Setup, Fault>
-    ensures { Answers result (opening_fault job.now) (OpenedBy job.now) }
-{
-    let header = job.header;
-    let request = BlockRequest {
-        left: header.left,
-        top: header.top,
-        width: header.block_width,
-        height: header.block_height,
-    };
-    let predicted = job.predicted();
-    Setup::new(
-        &job.current(),
-        header.list,
-        request,
-        header.qp,
-        header.range,
-        predicted.xs,
-        predicted.ys,
-    )
 }
 
 #[cfg(test)]
