@@ -1,5 +1,6 @@
 //! Worked examples, and refusals at their boundaries.
-use cost::{centre, sad};
+use cost::centre;
+use measure::sad;
 use picture::{Fault, Layer, vet_count, vet_list, vet_picture, vet_size};
 use rate::{Qp, Vector, code_length, vector_rate};
 use std::test::Fail;
@@ -8,7 +9,7 @@ use std::test::Fail;
 fn told<T: Drop>(answer: Result<T, Fault>) -> (u8, u8, i64) {
     match answer {
         Ok(_) => (0, 0, 0),
-        Err(fault) => (fault.row.number(), fault.layer.number(), fault.value),
+        Err(fault) => (u8::from(fault.row), u8::from(fault.layer), fault.value),
     }
 }
 
@@ -87,7 +88,7 @@ fn lambdas_and_rate_parts_by_hand(rt: HostRuntime) -> Result<(), Fail> {
         (30, 483_369, 59),
         (51, 5_468_703, 667),
     ] {
-        match Qp::new(qp) {
+        match Qp::try_from(qp) {
             Ok(given) => {
                 assert_eq!(rt; given.lambda(), lambda);
                 assert_eq!(rt; given.rate_part(8), part);
