@@ -1,73 +1,102 @@
 //! The list in hand, and what it gives.
-use crate::records::{Outcome, Place, Shape};
-use anyhow::anyhow;
+ghost use Rattle.std.specs.Prelude.{◌≡◌, ◌↔◌, IsTrue};
+ghost use Rattle.reference.specs.Lists.{is_strip};
+ghost use Rattle.conformance.specs.Outcomes.{Gives, HasStrip};
+
+use crate::records::{Outcome, Shape};
 use picture::{ReferencePictures, vet_list};
 use reference::{ComputedList, DrawnList, ReferenceList};
-use std::alloc::Global;
+use std::alloc::{AllocError, Global};
 
-/// The list that results are compared with: one of lent pictures, or one that is drawn.
+/// The list that results are compared with: one that is drawn, where there is one, else one of lent pictures.
 #[derive(Drop)]
-pub(crate) enum Held {
-    Lent(Shape, Vec<u8>),
-    Drawn(DrawnList),
+pub(crate) struct Held {
+    shape: Shape,
+    samples: Vec<u8>,
+    drawn: Option<DrawnList>,
 }
 
 impl Held {
-    /// A list of pictures whose samples follow.
-    pub(crate) fn lent(heap: Global, shape: Shape) -> Held {
-        Held::Lent(shape, Vec::new(heap))
+    /// No picture, before the first list.
+    pub(crate) fn none(heap: Global) -> Held {
+        Held {
+            shape: Shape::default(),
+            samples: Vec::new(heap),
+            drawn: None,
+        }
+    }
+
+    /// A list of pictures whose samples follow; of the shape in hand, where none is given.
+    pub(crate) fn begin(&mut self, shape: Option<Shape>) {
+        self.shape = shape.unwrap_or(self.shape);
+        self.samples.clear();
+        self.drawn = None;
+    }
+
+    /// A drawn list, or none.
+    pub(crate) fn draw(&mut self, list: Option<DrawnList>) {
+        self.drawn = list;
     }
 
     /// A row of samples.
-    pub(crate) fn extend(&mut self, row: &[i64]) -> anyhow::Result<()> {
-        let Held::Lent(_, samples) = self else {
-            return Err(anyhow!("samples of a drawn list"));
-        };
-        for sample in row {
-            samples.push(u8::try_from(*sample)?)?;
-        }
-        Ok(())
+    pub(crate) fn extend(&mut self, row: &[u8]) -> Result<(), AllocError> {
+        self.samples.extend_from_slice(row)
     }
 
     /// Whether the list gives that result.
-    pub(crate) fn gives(&self, outcome: Outcome) -> bool {
-        match self {
-            Held::Drawn(list) => outcome.is_of(list),
-            Held::Lent(shape, samples) => {
-                let samples = samples.as_slice();
-                match vet_list(shape.pictures, shape.width, shape.height, samples) {
-                    Ok(size) => {
-                        outcome.is_of(&ComputedList::new(ReferencePictures::new(size, samples)))
-                    }
-                    Err(_) => false,
-                }
-            }
+    pub(crate) fn gives(&self, outcome: &Outcome) -> bool {
+        if let Some(list) = &self.drawn {
+            return outcome.is_of(list);
+        }
+        let samples = self.samples.as_slice();
+        let Shape {
+            width,
+            height,
+            pictures,
+        } = self.shape;
+        match vet_list(pictures, width, height, samples) {
+            Ok(size) => outcome.is_of(&ComputedList::new(ReferencePictures::new(size, samples))),
+            Err(_) => false,
         }
     }
 }
 
-impl Outcome<'_> {
+impl Outcome {
     /// Whether a list gives this.
-    fn is_of<L: ReferenceList>(self, list: &L) -> bool {
+    fn is_of<L: ReferenceList>(&self, list: &L) -> bool
+        ensures { IsTrue result ↔ Gives (L.ReferenceList.meaning list.now) self.now }
+    {
         match self {
             Outcome::Sample(place, sample) => {
-                i64::from(list.sample(place.picture, place.x, place.y)) == sample
+                list.sample(place.picture, place.x, place.y) == *sample
             }
-            Outcome::Strip(place, samples) => strip_is(list, place, samples),
+            Outcome::Strip(place, samples) => strip_is(
+                list,
+                place.picture,
+                place.x,
+                place.y,
+                samples.as_slice(),
+            ),
         }
     }
 }
 
 /// Whether a list has this strip at a place.
-fn strip_is<L: ReferenceList>(list: &L, place: Place, samples: &[i64]) -> bool {
-    let n = samples.len();
-    if !matches!(n, 16 | 32 | 64) || place.x > 32_707 || place.y > 32_755 {
+fn strip_is<L: ReferenceList>(list: &L, picture: usize, x: i16, y: i16, samples: &[u8]) -> bool
+    ensures { IsTrue result ↔ HasStrip (L.ReferenceList.meaning list.now) picture x y samples.now }
+{
+    if !is_strip(samples.len()) || x > 32_707 || y > 32_755 {
         return false;
     }
     let mut strip = [0u8; 64];
-    list.strip(place.picture, place.x, place.y, &mut strip[..n]);
-    strip
-        .iter()
-        .zip(samples)
-        .all(|(given, wanted)| i64::from(*given) == *wanted)
+    let strip = &mut strip[..samples.len()];
+    list.strip(picture, x, y, strip);
+    &*strip == samples
+}
+
+/// Whether a strip may have so many samples.
+fn is_strip(n: usize) -> bool
+    ensures { result ≡ is_strip n }
+{
+    matches!(n, 16 | 32 | 64)
 }

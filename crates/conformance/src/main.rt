@@ -5,7 +5,7 @@ mod comparing;
 mod records;
 
 use crate::comparing::Held;
-use crate::records::{Record, Shape};
+use crate::records::Record;
 use std::alloc::Global;
 use std::io::Read;
 use tally::{Tally, numbers};
@@ -18,7 +18,7 @@ fn main(rt: HostRuntime) -> anyhow::Result<()> {
 fn run(rt: &HostRuntime) -> anyhow::Result<()> {
     let mut text = String::new(rt.alloc());
     rt.stdin().read_to_string(&mut text)?;
-    let mut held = Held::lent(rt.alloc(), Shape::NONE);
+    let mut held = Held::none(rt.alloc());
     let mut tally = Tally::default();
     for line in text.lines() {
         take(&mut held, &mut tally, rt.alloc(), line)?;
@@ -32,11 +32,13 @@ fn take(held: &mut Held, tally: &mut Tally, heap: Global, line: &str) -> anyhow:
     let mut words = line.split(' ');
     let kind = words.next().unwrap_or("");
     let numbers = numbers(heap, words)?;
-    match Record::read(kind, numbers.as_slice())? {
-        Record::List(shape) => *held = Held::lent(heap, shape),
-        Record::Drawn(list) => *held = Held::Drawn(list),
-        Record::Samples(samples) => held.extend(samples)?,
-        Record::Outcome(outcome) => tally.count(held.gives(outcome)),
+    match Record::read(heap, kind, numbers.as_slice())? {
+        Record::List(shape) => held.begin(shape),
+        Record::Drawn(list) => held.draw(list),
+        Record::Samples(samples) => held.extend(samples.as_slice())?,
+        Record::Outcome(outcome) => {
+            tally.count(outcome.as_ref().is_some_and(|outcome| held.gives(outcome)));
+        }
     }
     Ok(())
 }

@@ -1,19 +1,16 @@
 //! `conformance_search`: compares costs, patterns and full rounds with a table of outside results on standard input, and counts what agrees.
 #![tactic(auto)]
 
+mod costs;
+mod listed;
 mod patterns;
-mod strips;
+mod rounds;
 
 use anyhow::anyhow;
+use listed::Listed;
 use std::alloc::Global;
 use std::io::Read;
-
-/// How many records agreed, and how many did not.
-#[derive(Drop)]
-struct Table {
-    agreed: u64,
-    differed: u64,
-}
+use tally::{Tally, numbers};
 
 fn main(rt: HostRuntime) -> anyhow::Result<()> {
     run(&rt)
@@ -23,51 +20,36 @@ fn main(rt: HostRuntime) -> anyhow::Result<()> {
 fn run(rt: &HostRuntime) -> anyhow::Result<()> {
     let mut text = String::new(rt.alloc());
     rt.stdin().read_to_string(&mut text)?;
-    let mut table = Table {
-        agreed: 0,
-        differed: 0,
-    };
+    let mut tally = Tally::default();
     for line in text.lines() {
-        table.take(rt.alloc(), line)?;
+        take(&mut tally, rt.alloc(), line)?;
     }
-    let agreed = table.agreed;
-    let differed = table.differed;
-    println!(rt; "{agreed} agree, {differed} differ")?;
+    println!(rt; "{tally}")?;
     Ok(())
 }
 
-impl Table {
-    /// One record.
-    fn take(&mut self, heap: Global, line: &str) -> anyhow::Result<()> {
-        let mut words = line.split(' ');
-        let kind = words.next().unwrap_or("");
-        if kind == "costs" {
-            return self.count_costs(heap, line);
+/// One record: results to compare.
+fn take(tally: &mut Tally, heap: Global, line: &str) -> anyhow::Result<()> {
+    let mut words = line.split(' ');
+    match words.next().unwrap_or("") {
+        "costs" => {
+            for agrees in costs::costs_agree(heap, words)? {
+                tally.count(agrees);
+            }
         }
-        let name = if kind == "offsets" {
-            words.next().unwrap_or("")
-        } else {
-            ""
-        };
-        let mut numbers: Vec<i64> = Vec::new(heap);
-        for word in words {
-            numbers.push(word.parse::<i64>()?)?;
+        "offsets" => {
+            let name = words.next().unwrap_or("");
+            let listed = Listed::read(heap, numbers(heap, words)?.as_slice())?;
+            tally.count(listed.is_some_and(|listed| patterns::offsets_agree(name, &listed)));
         }
-        let numbers = numbers.as_slice();
-        match kind {
-            "offsets" => self.note(patterns::offsets_agree(name, numbers)),
-            "round" => self.note(patterns::round_agrees(numbers)),
-            _ => return Err(anyhow!("an unknown record")),
+        "round" => {
+            let listed = Listed::read(heap, numbers(heap, words)?.as_slice())?;
+            tally.count(listed.is_some_and(|listed| rounds::round_agrees(&listed)));
         }
-        Ok(())
+        _ => return Err(anyhow!("an unknown record")),
     }
-
-    /// Counts one comparison.
-    fn note(&mut self, agrees: bool) {
-        if agrees {
-            self.agreed = self.agreed.saturating_add(1);
-        } else {
-            self.differed = self.differed.saturating_add(1);
-        }
-    }
+    Ok(())
 }
+
+/// The words of a record that are left.
+type Words<'a> = std::str::Split<'a, char>;

@@ -1,2 +1,4 @@
+mod Arrays
+mod Chunks
 mod Halves
 mod Steps

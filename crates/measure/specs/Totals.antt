@@ -42,6 +42,10 @@ gap_most a b x y k = omega (arith, x k, y k)
 pub sad_most : (a b : List ℕ) → Bytes a → Bytes b → sad a b ≤ 255 * length a
 sad_most a b x y = total_most (gap_at a b) 255 (length a) (gap_most a b x y)
 
+-- so that SAD too keeps the bound of every measure
+pub sad_within : (a b : List ℕ) → Bytes a → Bytes b → sad a b ≤ 65025 * length a
+sad_within a b x y = omega (arith, sad_most a b x y)
+
 pub ssd_most : (a b : List ℕ) → Bytes a → Bytes b → ssd a b ≤ 65025 * length a
 ssd_most a b x y =
     total_most (square_at a b) 65025 (length a)

@@ -1,8 +1,8 @@
 //! Sums over the samples of two strips, sixteen at a time and by a signed difference: in this form the compiler makes
 //! vector code of them.
-ghost use Rattle.std.specs.Prelude.{◌≡◌, ◌*◌, ◌≤◌};
+ghost use Rattle.std.specs.Prelude.{◌≡◌, ◌*◌, ◌≤◌, length};
 ghost use Rattle.measure.specs.Strips.{Strips};
-ghost use Rattle.measure.specs.Sums.{gap, sad, ssd};
+ghost use Rattle.measure.specs.Sums.{gap, GivesAtMost, IsSumBy, sad, ssd};
 
 /// How far two samples are apart.
 fn apart(x: u8, y: u8) -> u32
@@ -21,18 +21,30 @@ fn apart_squared(x: u8, y: u8) -> u32
     d * d
 }
 
+/// The sum of what `cost` gives for the samples of two strips, place by place.
+fn sum_by<F: Fn(u8, u8) -> u32>(a: &[u8], b: &[u8], cost: F) -> u32
+    requires strips { Strips a.now b.now }
+    requires callable { F.IsAlwaysCallable cost }
+    requires most { GivesAtMost 65025 (F.post cost) }
+    ensures { IsSumBy (F.post cost) a.now b.now (length a.now) result }
+{
+    let (these, _) = a.as_chunks::<16>();
+    let (those, _) = b.as_chunks::<16>();
+    let mut sum: u32 = 0;
+    for (p, q) in these.iter().zip(those) {
+        for (x, y) in p.iter().zip(q) {
+            sum += cost(*x, *y);
+        }
+    }
+    sum
+}
+
 /// The sum of the absolute differences of two strips.
 pub fn absolute_sum(a: &[u8], b: &[u8]) -> u32
     requires { Strips a.now b.now }
     ensures { result ≡ sad a.now b.now }
 {
-    let mut sum: u32 = 0;
-    for k in 0..a.len() / 16 {
-        for i in 0..16usize {
-            sum += apart(a[16 * k + i], b[16 * k + i]);
-        }
-    }
-    sum
+    sum_by(a, b, apart)
 }
 
 /// The sum of the squared differences of two strips.
@@ -40,11 +52,5 @@ pub fn squared_sum(a: &[u8], b: &[u8]) -> u32
     requires { Strips a.now b.now }
     ensures { result ≡ ssd a.now b.now }
 {
-    let mut sum: u32 = 0;
-    for k in 0..a.len() / 16 {
-        for i in 0..16usize {
-            sum += apart_squared(a[16 * k + i], b[16 * k + i]);
-        }
-    }
-    sum
+    sum_by(a, b, apart_squared)
 }

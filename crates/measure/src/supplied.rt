@@ -1,13 +1,27 @@
 //! The measures supplied.
+ghost use Rattle.std.specs.Prelude.{◌≡◌};
+ghost use Rattle.measure.specs.Strips.{Strips};
 ghost use Rattle.measure.specs.Sums.{sad, ssd};
 ghost use Rattle.measure.specs.Transforms.{satd};
-ghost use Rattle.std.proofs.Common.{arith};
-ghost use Rattle.measure.specs.Totals.{sad_most, ssd_most};
-ghost use Rattle.measure.specs.Squares.{satd_most};
+ghost use Rattle.measure.specs.Totals.{sad_within, ssd_most};
+ghost use Rattle.measure.specs.Squares.{satd_within};
 
 use crate::measures::{Measure, are_strips};
 use crate::sums::{absolute_sum, squared_sum};
 use crate::transforms::transformed_sum;
+
+/// What `sum` gives for two strips of one width; 0 for any other two slices.
+fn if_strips<F: FnOnce(&[u8], &[u8]) -> u32>(a: &[u8], b: &[u8], sum: F) -> u32
+    requires { Strips a.now b.now → F.pre sum a b }
+    ensures strips { Strips a.now b.now → F.post sum a.entry b.entry result }
+    ensures others { (Strips a.now b.now → ⊥) → result ≡ 0 }
+{
+    if are_strips(a.len(), b.len()) {
+        sum(a, b)
+    } else {
+        0
+    }
+}
 
 /// The sum of absolute differences.
 #[derive(Clone, Copy)]
@@ -16,14 +30,10 @@ pub struct Sad;
 impl Measure for Sad {
     ghost cost = { λ _. sad };
 
-    ghost most = { λ m a b x y s. omega (arith, sad_most a b x y) };
+    ghost most = { λ m a b x y s. sad_within a b x y };
 
     fn price(&self, a: &[u8], b: &[u8]) -> u32 {
-        if are_strips(a.len(), b.len()) {
-            absolute_sum(a, b)
-        } else {
-            0
-        }
+        if_strips(a, b, absolute_sum)
     }
 }
 
@@ -34,14 +44,10 @@ pub struct Ssd;
 impl Measure for Ssd {
     ghost cost = { λ _. ssd };
 
-    ghost most = { λ m a b x y s. omega (arith, ssd_most a b x y) };
+    ghost most = { λ m a b x y s. ssd_most a b x y };
 
     fn price(&self, a: &[u8], b: &[u8]) -> u32 {
-        if are_strips(a.len(), b.len()) {
-            squared_sum(a, b)
-        } else {
-            0
-        }
+        if_strips(a, b, squared_sum)
     }
 }
 
@@ -52,13 +58,9 @@ pub struct Satd;
 impl Measure for Satd {
     ghost cost = { λ _. satd };
 
-    ghost most = { λ m a b x y s. omega (arith, satd_most a b x y) };
+    ghost most = { λ m a b x y s. satd_within a b x y };
 
     fn price(&self, a: &[u8], b: &[u8]) -> u32 {
-        if are_strips(a.len(), b.len()) {
-            transformed_sum(a, b)
-        } else {
-            0
-        }
+        if_strips(a, b, transformed_sum)
     }
 }

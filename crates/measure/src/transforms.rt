@@ -1,27 +1,24 @@
 //! Half the sum of absolute transformed differences, over the 4x4 squares of two strips.
 ghost use Rattle.std.specs.Prelude.{◌≡◌, ◌+◌, ◌*◌, ◌/◌, ◌<◌, ◌≤◌, length, pos, ◌+ℤ◌, ◌-ℤ◌, unsigned_abs};
 ghost use Rattle.measure.specs.Strips.{Strips};
-ghost use Rattle.measure.specs.Fours.{AllWithin, Within, entries, flipped, four_of, matrix_of, size_of, turned, turned_rows};
+ghost use Rattle.measure.specs.Fours.{AllWithin, Within, entries, flipped, four_of, matrix_of, part, row, size_of, turned, turned_rows};
+ghost use Rattle.measure.specs.Sums.{total};
 ghost use Rattle.measure.specs.Transforms.{difference_at, matrix_at, satd, satd4, spread};
 
-use crate::fours::{Four, Matrix};
+use std::array::from_fn;
 
-/// The sum and the difference of two numbers.
-#[derive(Clone, Copy)]
-struct Crossed {
-    sum: i32,
-    difference: i32,
-}
+/// Four differences, or four sums of them.
+type Four = [i32; 4];
+
+/// A 4x4 matrix, row by row.
+type Matrix = [Four; 4];
 
 /// A butterfly: the sum of two numbers, and the first less the second.
-fn cross(a: i32, b: i32) -> Crossed
+fn cross(a: i32, b: i32) -> (i32, i32)
     requires { (unsigned_abs a ≤ 4080) × (unsigned_abs b ≤ 4080) }
-    ensures { (result.sum ≡ a +ℤ b) × (result.difference ≡ a -ℤ b) }
+    ensures { (result.0 ≡ a +ℤ b) × (result.1 ≡ a -ℤ b) }
 {
-    Crossed {
-        sum: a + b,
-        difference: a - b,
-    }
+    (a + b, a - b)
 }
 
 /// Four numbers transformed by (1,1,1,1), (1,1,-1,-1), (1,-1,-1,1), (1,-1,1,-1).
@@ -29,16 +26,12 @@ fn transform(x: Four) -> Four
     requires { Within 1020 x }
     ensures { result ≡ turned x }
 {
-    let front = cross(x.a, x.b);
-    let back = cross(x.c, x.d);
-    let even = cross(front.sum, back.sum);
-    let odd = cross(front.difference, back.difference);
-    Four {
-        a: even.sum,
-        b: even.difference,
-        c: odd.difference,
-        d: odd.sum,
-    }
+    let [a, b, c, d] = x;
+    let (front_sum, front_difference) = cross(a, b);
+    let (back_sum, back_difference) = cross(c, d);
+    let (even_sum, even_difference) = cross(front_sum, back_sum);
+    let (odd_sum, odd_difference) = cross(front_difference, back_difference);
+    [even_sum, even_difference, odd_difference, odd_sum]
 }
 
 /// Each row of a matrix transformed.
@@ -46,53 +39,55 @@ fn transform_rows(x: Matrix) -> Matrix
     requires { AllWithin 1020 x }
     ensures { result ≡ turned_rows x }
 {
-    Matrix {
-        a: transform(x.a),
-        b: transform(x.b),
-        c: transform(x.c),
-        d: transform(x.d),
-    }
+    x.map(transform)
+}
+
+/// The column c of a matrix.
+fn column(x: &Matrix, c: usize) -> Four
+    requires { c < 4 }
+    ensures { result ≡ four_of (λ r. entries x.now r c) }
+{
+    // By pattern: `x.map(|row| row[c])` needs clauses at the closure, and is no plainer.
+    let [p, q, r, s] = x;
+    [p[c], q[c], r[c], s[c]]
 }
 
 /// Rows for columns.
 fn flip(x: Matrix) -> Matrix
     ensures { result ≡ flipped x }
 {
-    Matrix {
-        a: Four {
-            a: x.a.a,
-            b: x.b.a,
-            c: x.c.a,
-            d: x.d.a,
-        },
-        b: Four {
-            a: x.a.b,
-            b: x.b.b,
-            c: x.c.b,
-            d: x.d.b,
-        },
-        c: Four {
-            a: x.a.c,
-            b: x.b.c,
-            c: x.c.c,
-            d: x.d.c,
-        },
-        d: Four {
-            a: x.a.d,
-            b: x.b.d,
-            c: x.c.d,
-            d: x.d.d,
-        },
-    }
+    from_fn(
+        |c|
+            requires { c < 4 }
+            ensures { result ≡ four_of (λ r. entries x r c) }
+        { column(&x, c) },
+    )
 }
 
 /// The sum of four absolute values.
-fn four_size(x: Four) -> u32
-    requires { Within 4080 x }
-    ensures value { result ≡ size_of x }
+fn four_size(x: &Four) -> u32
+    requires { Within 4080 x.now }
+    ensures value { result ≡ size_of x.now }
     ensures most { result ≤ 16320 }
 {
-    x.a.unsigned_abs() + x.b.unsigned_abs() + x.c.unsigned_abs() + x.d.unsigned_abs()
+    let mut sum: u32 = 0;
+    for v in x {
+        sum += v.unsigned_abs();
+    }
+    sum
+}
+
+/// The sum of the absolute values of a matrix.
+fn matrix_size(x: &Matrix) -> u32
+    requires { AllWithin 4080 x.now }
+    ensures value { result ≡ total 4 (λ r. size_of (row x.now r)) }
+    ensures most { result ≤ 65280 }
+{
+    let mut sum: u32 = 0;
+    for row in x {
+        sum += four_size(row);
+    }
+    sum
 }
 
 /// What a square with these differences costs: half the sum of the sixteen absolute values of their transform.
@@ -102,8 +97,8 @@ fn square_cost(x: Matrix) -> u32
     ensures exact { 2 * result ≡ spread (entries x) }
     ensures most { result ≤ 32640 }
 {
-    let t = transform_rows(flip(transform_rows(x)));
-    (four_size(t.a) + four_size(t.b) + four_size(t.c) + four_size(t.d)) / 2
+    let turned = transform_rows(flip(transform_rows(x)));
+    matrix_size(&turned) / 2
 }
 
 /// A sample less another.
@@ -111,21 +106,21 @@ fn less(x: u8, y: u8) -> i32
     ensures value { result ≡ pos x -ℤ pos y }
     ensures most { unsigned_abs result ≤ 255 }
 {
-    x as i32 - y as i32
+    i32::from(x) - i32::from(y)
 }
 
-/// Four differences, from a place on.
-fn differences(a: &[u8], b: &[u8], from: usize) -> Four
-    requires { (from + 4 ≤ length a.now) × (from + 4 ≤ length b.now) }
-    ensures value { result ≡ four_of (λ c. difference_at a.now b.now (from + c)) }
+/// The differences of four samples and four others.
+fn differences(p: &[u8; 4], q: &[u8; 4]) -> Four
+    ensures value { result ≡ four_of (difference_at p.now q.now) }
     ensures most { Within 255 result }
 {
-    Four {
-        a: less(a[from], b[from]),
-        b: less(a[from + 1], b[from + 1]),
-        c: less(a[from + 2], b[from + 2]),
-        d: less(a[from + 3], b[from + 3]),
-    }
+    from_fn(
+        |c|
+            requires { c < 4 }
+            ensures value { result ≡ difference_at p.entry.now q.entry.now c }
+            ensures most { unsigned_abs result ≤ 255 }
+        { less(p[c], q[c]) },
+    )
 }
 
 /// The row r of the differences of the n-th square of two strips, from the left.
@@ -134,7 +129,10 @@ fn matrix_row(a: &[u8], b: &[u8], n: usize, r: usize) -> Four
     ensures value { result ≡ four_of (matrix_at a.now b.now n r) }
     ensures most { Within 255 result }
 {
-    differences(a, b, r * (a.len() / 4) + 4 * n)
+    let (these, _) = a.as_chunks::<4>();
+    let (those, _) = b.as_chunks::<4>();
+    let place = r * (a.len() / 16) + n;
+    differences(&these[place], &those[place])
 }
 
 /// The differences of the n-th square of two strips, from the left.
@@ -143,12 +141,13 @@ fn matrix_at(a: &[u8], b: &[u8], n: usize) -> Matrix
     ensures value { result ≡ matrix_of (matrix_at a.now b.now n) }
     ensures most { AllWithin 255 result }
 {
-    Matrix {
-        a: matrix_row(a, b, n, 0),
-        b: matrix_row(a, b, n, 1),
-        c: matrix_row(a, b, n, 2),
-        d: matrix_row(a, b, n, 3),
-    }
+    from_fn(
+        |r|
+            requires { (Strips a.now b.now) × ((n < length a.now / 16) × (r < 4)) }
+            ensures value { result ≡ four_of (matrix_at a.entry.now b.entry.now n r) }
+            ensures most { Within 255 result }
+        { matrix_row(a, b, n, r) },
+    )
 }
 
 /// The sum over the squares of two strips.
@@ -157,6 +156,7 @@ pub fn transformed_sum(a: &[u8], b: &[u8]) -> u32
     ensures { result ≡ satd a.now b.now }
 {
     let mut sum: u32 = 0;
+    // By number: the rows of a square do not stand side by side, so that no slice has squares for its items.
     for n in 0..a.len() / 16 {
         sum += square_cost(matrix_at(a, b, n));
     }

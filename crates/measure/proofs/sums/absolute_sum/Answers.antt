@@ -1,15 +1,6 @@
--- One sample more, and all of them.
-use Rattle.std.proofs.Common.{◌≡◌, ◌*◌, length, arith}
-use Rattle.measure.specs.Sums.{gap_at}
-use Rattle.measure.specs.Totals.{total_step_to, total_done, strip_lengths}
+-- What each sample gives is the gap.
+use Rattle.measure.specs.Sums.{gap}
 use Rattle.measure.proofs.sums.absolute_sum.Goals as goal
 
-pub loop-i-preserved : goal.loop-i-preserved
-loop-i-preserved c =
-    total_step_to (gap_at c.args.a.now c.args.b.now) 255 _ _ _ _ (omega arith) c.loop-i.invariant c.apart-sum.ensures.value c.apart-sum.ensures.most
-
 pub returns : goal.returns
-returns c =
-    let e = strip_lengths c.args.a.now c.args.b.now c.requires in
-    let all : 16 * c.loop-k.k ≡ length c.args.a.now = omega arith in
-    total_done (gap_at c.args.a.now c.args.b.now) 255 _ _ _ c.loop-k.invariant all
+returns c = c.sum_by.ensures gap (λ x y r p. p.0)

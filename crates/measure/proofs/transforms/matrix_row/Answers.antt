@@ -1,12 +1,10 @@
--- A row of a square lies inside both strips.
-use Rattle.std.proofs.Common.{◌*◌, ◌/◌, ◌≤◌, length, arith}
-use Rattle.std.proofs.lemmas.Nat.{mul-le}
-use Rattle.measure.specs.Totals.{strip_lengths}
+-- The chunk of four in that place is a row of that square.
+use Rattle.std.proofs.Common.{◌+◌, ◌*◌, ◌/◌, length, get_or, [], ap, arith}
+use Rattle.measure.proofs.Chunks.{square_row}
 use Rattle.measure.proofs.transforms.matrix_row.Goals as goal
 
-pub differences-requires : goal.differences-requires
-differences-requires c =
-    let w = length c.args.a.now / 4 in
-    let s = strip_lengths c.args.a.now c.args.b.now c.requires.0 in
-    let h : c.args.r * w ≤ 3 * w = mul-le _ _ _ _ (omega arith) (omega arith) in
-    (omega arith, omega arith)
+pub returns-clause-value : goal.returns-clause-value
+returns-clause-value c =
+    let at = square_row c.args.a.now c.args.b.now _ _ c.args.n c.args.r c.requires.0 c.requires.1.0 c.requires.1.1 (ap (λ t. get_or t (c.args.r * (length c.args.a.now / 16) + c.args.n) []) c.as_chunks.ensures.front) (ap (λ t. get_or t (c.args.r * (length c.args.a.now / 16) + c.args.n) []) c.as_chunks-2.ensures.front) in
+    let e = c.differences.ensures.value in
+    cc (at 0 (omega arith), at 1 (omega arith), at 2 (omega arith), at 3 (omega arith))
