@@ -1,10 +1,9 @@
-mod Rounding
-mod TapBounds
+mod TapSums
 pub mod Strips
-mod Products
+mod Sums
 mod Copies
-mod Each
-mod Cells
+mod Filling
+mod Interpolated
 mod Listing
 mod Places
-mod Showing
+mod Shown

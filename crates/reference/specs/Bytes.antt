@@ -1,6 +1,6 @@
 -- Every sample is a byte.
-use Rattle.std.specs.Prelude.{◌≡◌, ℕ, zero, suc, ◌+◌, ◌*◌, ◌<◌, ◌≤◌, Bool, true, false, cond, T, List, [], ◌∷◌, take, drop, ℤ, pos, negsuc, nat_lt, slice_index, refl}
-use Rattle.std.proofs.Common.{sym, subst, lit<, ltb→lt, get_or-drop, arith}
+use Rattle.std.specs.Prelude.{ℕ, zero, suc, ◌+◌, ◌*◌, ◌<◌, Bool, true, false, cond, List, [], ◌∷◌, take, drop, ℤ, pos, negsuc, slice_index}
+use Rattle.std.proofs.Common.{lit<, get_or-drop, arith}
 use Rattle.std.specs.List.{AllByRecursion}
 use Rattle.picture.specs.Planes.{Grid, grid, nearest}
 use Rattle.reference.specs.Interpolation.{clip, mean, rounded, rounded_twice, cell, quarter}
@@ -52,13 +52,6 @@ cell_byte g b x y =
 pub quarter_byte : (g : Grid) → ((x y : ℤ) → g x y < 256) → (X Y : ℤ) → quarter g X Y < 256
 unfolding quarter
 quarter_byte g b X Y = cell_byte g b _ _ _
-
-not_by : (a b : ℕ) (t : Bool) → nat_lt a b ≡ t → b ≤ a → t ≡ false
-not_by a b true e h = absurd (omega (arith, ltb→lt a b (subst T (sym e) tt)))
-not_by a b false e h = refl
-
-pub not_below : (a b : ℕ) → b ≤ a → nat_lt a b ≡ false
-not_below a b h = not_by a b (nat_lt a b) refl h
 
 pub byte_if : (b : Bool) (n : ℕ) → n < 256 → cond b n 0 < 256
 byte_if true n h = h

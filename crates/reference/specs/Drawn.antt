@@ -1,9 +1,10 @@
 -- What a drawn list means.
 use Rattle.std.specs.Prelude.{ℕ, ◌<◌, cond, ℤ, pos, negsuc, ◌+ℤ◌, ◌*ℤ◌, nat_lt, unsigned_abs}
+use Rattle.std.proofs.lemmas.Bool.{le-ltb}
 use Rattle.std.proofs.Common.{ap, arith}
 use Rattle.std.specs.Int.{int_rem_euclid}
 use Rattle.reference.specs.declared.drawn.DrawnList.{DrawnList}
-use Rattle.reference.specs.Bytes.{byte_if, not_below}
+use Rattle.reference.specs.Bytes.{byte_if}
 use Rattle.reference.specs.Lists.{ListMeaning}
 
 -- (aX + bY + c + r) mod 256, never negative
@@ -25,5 +26,5 @@ drawn l = record {
   wide = l.size.picture.wide;
   high = l.size.picture.high;
   byte = λ r X Y. byte_if (nat_lt r l.size.pictures) (ruled l r X Y) (mod_byte _);
-  past = λ r X Y h. ap (λ b. cond b (ruled l r X Y) 0) (not_below r l.size.pictures h);
+  past = λ r X Y h. ap (λ b. cond b (ruled l r X Y) 0) (le-ltb r l.size.pictures h);
 }

@@ -3,6 +3,7 @@ pub mod Bounds
 pub mod Bytes
 pub mod Lists
 pub mod Drawn
+pub mod Parts
 pub mod Patches
 pub mod Rows
 pub mod Computed

@@ -1,16 +1,16 @@
 //! Reference lists: the interface, the computing list with H.264's quarter samples, and the drawn list.
 #![tactic(auto)]
 
+mod cells;
 mod computed;
-mod computing;
-mod drawing;
 mod drawn;
+mod extents;
 mod lists;
 mod marked;
 mod parts;
 mod patches;
 mod patching;
-mod quarters;
+mod positions;
 mod reading;
 mod taps;
 mod vetting;

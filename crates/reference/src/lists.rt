@@ -1,6 +1,9 @@
 //! Reference lists: what a search asks of one. A buyer's own list implements this.
 ghost use Rattle.std.specs.Prelude.{◌≡◌, ◌+◌, ◌*◌, ◌/◌, ◌≤◌, true, length, pos, ◌+ℤ◌, ◌≤ℤ◌};
+ghost use Rattle.reference.specs.Bounds.{Reaches};
 ghost use Rattle.reference.specs.Lists.{ListMeaning, is_strip, strip_of};
+
+use crate::extents::{Extent, fill_rows};
 
 /// 1 to 16 pictures of one size; nothing that is asked alters the list.
 pub trait ReferenceList {
@@ -27,18 +30,23 @@ pub trait ReferenceList {
         requires wide { is_strip (length out.old) ≡ true }
         ensures { out.new ≡ strip_of (meaning self.now) picture x y (length out.old / 4) }
     {
-        let width = out.len() / 4;
-        for k in 0..out.len() {
-            let column = along(x, k % width);
-            let row = along(y, k / width);
-            out[k] = self.sample(picture, column, row);
-        }
+        let extent = Extent {
+            width: out.len() / 4,
+            height: 4,
+        };
+        fill_rows(
+            out,
+            extent,
+            |column, row|
+                requires { Reaches x column × Reaches y row }
+            { self.sample(picture, along(x, column), along(y, row)) },
+        );
     }
 }
 
 /// `by` whole samples further, in quarter samples.
 pub(crate) fn along(z: i16, by: usize) -> i16
-    requires { (by ≤ 15) × ((z +ℤ pos (4 * by)) ≤ℤ pos 32767) }
+    requires { Reaches z by }
     ensures { result ≡ z +ℤ pos (4 * by) }
 {
     z + 4 * by as i16

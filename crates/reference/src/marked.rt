@@ -2,6 +2,7 @@
 ghost use Rattle.reference.specs.Marked.{Marked};
 
 /// The definition of a sample gives the worked examples' values.
+#[tactic(auto, unfolding(crate::specs::Interpolation::quarter, crate::specs::Interpolation::cell, crate::specs::Interpolation::across, crate::specs::Interpolation::tap, crate::specs::Interpolation::rounded))]
 pub fn examples_hold()
     ensures { Marked }
 {}

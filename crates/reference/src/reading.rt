@@ -1,40 +1,43 @@
 //! Reading whole samples of a picture, in rows.
-ghost use Rattle.std.specs.Prelude.{◌≡◌, ℕ, ◌+◌, ◌*◌, ◌/◌, ◌<◌, ◌≤◌, length, pos, ◌+ℤ◌, IfSome, slice_index};
-ghost use Rattle.picture.specs.Planes.{grid_of};
-ghost use Rattle.reference.specs.Bounds.{Within};
-ghost use Rattle.reference.specs.Rows.{Rows, StartsAt};
-ghost use Rattle.picture.specs.Planes.{grid_sample};
+ghost use Rattle.std.specs.Prelude.{◌≡◌, ℕ, ◌+◌, ◌*◌, ◌<◌, ◌≤◌, length, pos, ◌+ℤ◌, IfSome, slice_index};
+ghost use Rattle.picture.specs.Planes.{grid_of, grid_sample};
+ghost use Rattle.reference.specs.Rows.{StartsAt};
 
+use crate::extents::{Extent, fill_rows};
 use picture::Plane;
 
 /// `by` whole samples further.
-fn further(z: i32, by: usize) -> i32
-    requires { (Within 16384 z) × (by ≤ 189) }
+fn further(z: i16, by: usize) -> i32
+    requires { by ≤ 21 }
     ensures { result ≡ z +ℤ pos by }
 {
-    z + by as i32
+    i32::from(z) + by as i32
 }
 
-/// Rows of `width` samples from column `x` and row `y` on, each sample clamped.
-fn clamp_rows(plane: &Plane<'_>, x: i32, y: i32, width: usize, out: &mut [u8])
-    requires near { Within 16384 x × Within 16384 y }
-    requires rows { Rows width (length out.old) }
-    ensures { (k : ℕ) → k < length out.old → slice_index out.new k ≡ grid_sample (grid_of plane.now) x y width k }
+/// Rows of whole samples from a column and a row on, each sample clamped.
+fn clamp_rows(plane: &Plane<'_>, column: i16, row: i16, extent: Extent, out: &mut [u8])
+    requires { length out.old ≡ extent.height * extent.width }
+    ensures { (k : ℕ) → k < length out.old → slice_index out.new k ≡ grid_sample (grid_of plane.now) column row extent.width k }
 {
-    for k in 0..out.len() {
-        let column = further(x, k % width);
-        let row = further(y, k / width);
-        out[k] = plane.whole(column, row);
-    }
+    fill_rows(
+        out,
+        extent,
+        |c, r|
+            requires { (c ≤ 21) × (r ≤ 21) }
+            ensures { result ≡ grid_of plane.entry.now (column +ℤ pos c) (row +ℤ pos r) }
+        { plane.whole(further(column, c), further(row, r)) },
+    );
 }
 
 /// The same where all of them lie inside the picture: whole rows are copied.
-fn copy_rows(plane: &Plane<'_>, column: usize, row: usize, width: usize, out: &mut [u8])
-    requires rows { Rows width (length out.old) }
-    requires inside { (column + width ≤ plane.now.size.width) × (row + length out.old / width ≤ plane.now.size.height) }
-    ensures { (k : ℕ) → k < length out.old → slice_index out.new k ≡ grid_sample (grid_of plane.now) (pos column) (pos row) width k }
+fn copy_rows(plane: &Plane<'_>, column: usize, row: usize, extent: Extent, out: &mut [u8])
+    requires room { length out.old ≡ extent.height * extent.width }
+    requires inside { (column + extent.width ≤ plane.now.size.width) × (row + extent.height ≤ plane.now.size.height) }
+    ensures { (k : ℕ) → k < length out.old → slice_index out.new k ≡ grid_sample (grid_of plane.now) (pos column) (pos row) extent.width k }
 {
-    for r in 0..out.len() / width {
+    let width = extent.width;
+    // by index: what is written through `chunks_exact_mut` is not known to a proof
+    for r in 0..extent.height {
         let from = (row + r) * plane.size.width + column;
         let to = r * width;
         out[to..to + width].copy_from_slice(&plane.samples[from..from + width]);
@@ -42,48 +45,29 @@ fn copy_rows(plane: &Plane<'_>, column: usize, row: usize, width: usize, out: &m
 }
 
 /// Where `span` samples from `z` on lie inside the size, the first of them.
-fn start_inside(z: i32, span: usize, size: usize) -> Option<usize>
-    requires { span ≤ 189 }
+fn start_inside(z: i16, span: usize, size: usize) -> Option<usize>
+    requires { span ≤ 21 }
     ensures { IfSome result (StartsAt z span size) }
 {
-    if z < 0 {
-        return None;
-    }
-    let first = z as usize;
-    if first + span <= size {
-        Some(first)
-    } else {
-        None
-    }
+    usize::try_from(z).ok().filter(|first| first + span <= size)
 }
 
-/// Rows of `width` whole samples of a picture, from column `x` and row `y` on.
-pub(crate) fn read_rows(plane: &Plane<'_>, x: i32, y: i32, width: usize, out: &mut [u8])
-    requires near { Within 16384 x × Within 16384 y }
-    requires rows { Rows width (length out.old) }
-    ensures { (k : ℕ) → k < length out.old → slice_index out.new k ≡ grid_sample (grid_of plane.now) x y width k }
+/// Rows of whole samples of a picture, from a column and a row on.
+pub(crate) fn read_rows(plane: &Plane<'_>, column: i16, row: i16, extent: Extent, out: &mut [u8])
+    requires { length out.old ≡ extent.height * extent.width }
+    ensures { (k : ℕ) → k < length out.old → slice_index out.new k ≡ grid_sample (grid_of plane.now) column row extent.width k }
 {
-    if let Some(column) = start_inside(x, width, plane.size.width) {
-        if let Some(row) = start_inside(y, out.len() / width, plane.size.height) {
-            return copy_rows(plane, column, row, width, out);
-        }
+    match (
+        start_inside(column, extent.width, plane.size.width),
+        start_inside(row, extent.height, plane.size.height),
+    ) {
+        (Some(first_column), Some(first_row)) => copy_rows(
+            plane,
+            first_column,
+            first_row,
+            extent,
+            out,
+        ),
+        _ => clamp_rows(plane, column, row, extent, out),
     }
-    clamp_rows(plane, x, y, width, out)
-}
-
-/// The same into the first `count` places of a buffer.
-pub(crate) fn read_front(
-    plane: &Plane<'_>,
-    x: i32,
-    y: i32,
-    width: usize,
-    count: usize,
-    out: &mut [u8],
-)
-    requires near { Within 16384 x × Within 16384 y }
-    requires rows { Rows width count }
-    requires room { count ≤ length out.old }
-    ensures { (k : ℕ) → k < count → slice_index out.new k ≡ grid_sample (grid_of plane.now) x y width k }
-{
-    read_rows(plane, x, y, width, &mut out[0..count])
 }

@@ -1,6 +1,6 @@
 -- How far the vectors of a window lie from (0, 0) and from the predicted vector.
 use Rattle.std.specs.Prelude.{◌≡◌, ℕ, ◌<◌, ◌≤◌, Bool, true, false, leb, ℤ, pos, ◌+ℤ◌, ◌-ℤ◌, ◌*ℤ◌, nat_le, nat_lt, unsigned_abs, ◌==◌, refl}
-use Rattle.std.proofs.Common.{subst, arith}
+use Rattle.std.proofs.Common.{sym, subst, arith}
 use Rattle.std.proofs.lemmas.Int.{ints}
 use Rattle.std.proofs.lemmas.Bool.{and_parts, leb-true}
 use Rattle.std.proofs.lemmas.Bool.Decides.{nat_tests}
@@ -12,7 +12,7 @@ use Rattle.cost.proofs.Quarters.{floor_is}
 use Rattle.candidate.specs.declared.candidates.Candidate.{Candidate}
 use Rattle.candidate.specs.Rating.{predicted_in, across, down, is_priced}
 use Rattle.pattern.specs.Offsets.{Within}
-use Rattle.window.specs.Windows.{Window, Apart, inside, inside_across, inside_down, in_quarters}
+use Rattle.window.specs.Windows.{Window, Apart, inside, inside_across, inside_down, in_quarters, quartered}
 use Rattle.window.specs.Stages.{predicted_at, whole_of, quarter}
 
 -- both components of a vector inside are near the centre's
@@ -71,6 +71,12 @@ apart_priced s c named a =
     leb_yes : (m n : ℕ) → m ≤ n → nat_le m n ≡ true
     leb_yes m n h = grind (arith, nat_tests)
 
+-- so every candidate inside a window of the first stage has a price
+pub whole_priced : (s : Setup) (c : Candidate) → (whole_of s).named c.picture ≡ true → inside (whole_of s) c.picture c.vector ≡ true → is_priced s (quartered (whole_of s) c) ≡ true
+whole_priced s c named t =
+    let h = whole_near s c.picture c.vector named t in
+    apart_priced s (quartered (whole_of s) c) named (omega (arith, h.2.0), omega (arith, h.2.1))
+
 quarter_component : (p c z : ℤ) → unsigned_abs c ≤ 4352 → unsigned_abs (c -ℤ p) ≤ 258 → unsigned_abs (z -ℤ c) ≤ 3 → unsigned_abs (pos 1 *ℤ z -ℤ p) ≤ 261
 quarter_component p c z h g apart = omega (arith, ints)
 
@@ -94,3 +100,12 @@ same_picture r p e = grind (arith, nat_tests)
 -- so it is below the number of pictures
 pub same_below : (r p n : ℕ) → r ≡ p → p < n → nat_lt r n ≡ true
 same_below r p n e h = grind (arith, nat_tests)
+
+-- and so has every candidate inside the window of the second
+pub quarter_priced : (s : Setup) (picture : ℕ) (v : Vector) (c : Candidate) → picture < s.predicted.pictures → Within 4352 v → Apart 258 v (predicted_in s picture) →
+    (quarter picture v).named c.picture ≡ true → inside (quarter picture v) c.picture c.vector ≡ true → is_priced s (quartered (quarter picture v) c) ≡ true
+quarter_priced s picture v c listed near tabled named t =
+    let e = same_picture c.picture picture named in
+    let a = quarter_near picture c.picture (predicted_in s picture) v c.vector near tabled t in
+    apart_priced s (quartered (quarter picture v) c) (same_below c.picture picture s.predicted.pictures e listed)
+    (subst (λ (r : ℕ). Apart 261 (in_quarters (quarter picture v) c.vector) (predicted_in s r)) (sym e) a)

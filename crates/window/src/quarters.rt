@@ -1,11 +1,11 @@
 //! The second stage, in quarter samples.
-ghost use Rattle.std.specs.Prelude.{ℕ, ◌<◌};
-ghost use Rattle.std.proofs.Common.{sym, subst, rules};
+ghost use Rattle.std.specs.Prelude.{◌<◌};
+ghost use Rattle.std.proofs.Common.{rules};
 ghost use Rattle.candidate.specs.Rating.{predicted_in};
 ghost use Rattle.pattern.specs.Offsets.{Within};
 ghost use Rattle.window.specs.Stages.{quarter};
-ghost use Rattle.window.specs.Windows.{Apart, in_quarters, quartered};
-ghost use Rattle.window.specs.Nearness.{quarter_near, apart_priced, same_below, same_picture};
+ghost use Rattle.window.specs.Windows.{Apart};
+ghost use Rattle.window.specs.Nearness.{quarter_priced};
 
 use crate::stages::Stage;
 use cost::Setup;
@@ -32,10 +32,7 @@ impl Stage for Quarter {
     ghost central = { λ s r. s.near };
 
     ghost priced = { λ s c named t.
-        let e = same_picture c.picture s.picture named in
-        let a = quarter_near s.picture c.picture (predicted_in s.setup s.picture) s.vector c.vector s.near s.tabled t in
-        apart_priced s.setup (quartered (quarter s.picture s.vector) c) (same_below c.picture s.picture s.setup.predicted.pictures e s.listed)
-        (subst (λ (r : ℕ). Apart 261 (in_quarters (quarter s.picture s.vector) c.vector) (predicted_in s.setup r)) (sym e) a) };
+        quarter_priced s.setup s.picture s.vector c s.listed s.near s.tabled named t };
 
     fn setup(&self) -> &Setup {
         &self.setup

@@ -3,9 +3,9 @@ ghost use Rattle.std.specs.Prelude.{◌≡◌, true, false, MatchOption};
 ghost use Rattle.pattern.specs.Offsets.{Within};
 ghost use Rattle.window.specs.Stages.{whole_of};
 ghost use Rattle.window.specs.Handing.{Handed, is_inside};
-ghost use Rattle.window.specs.Windows.{inside, quartered};
-ghost use Rattle.window.specs.Nearness.{whole_central, whole_near, apart_priced};
-ghost use Rattle.std.proofs.Common.{arith, rules};
+ghost use Rattle.window.specs.Windows.{inside};
+ghost use Rattle.window.specs.Nearness.{whole_central, whole_priced};
+ghost use Rattle.std.proofs.Common.{rules};
 
 use crate::quarters::Quarter;
 use crate::stages::Stage;
@@ -55,9 +55,7 @@ impl Stage for Whole {
 
     ghost central = { λ s r. whole_central s.setup r };
 
-    ghost priced = { λ s c named t.
-        let h = whole_near s.setup c.picture c.vector named t in
-        apart_priced s.setup (quartered (whole_of s.setup) c) named (omega (arith, h.2.0), omega (arith, h.2.1)) };
+    ghost priced = { λ s c named t. whole_priced s.setup c named t };
 
     fn setup(&self) -> &Setup {
         &self.setup
@@ -68,7 +66,10 @@ impl Stage for Whole {
     }
 
     fn centre(&self, picture: usize) -> Vector {
-        self.setup.predicted.get(picture).map_or(Vector { x: 0, y: 0 }, |predicted| centre_of(predicted))
+        self.setup
+            .predicted
+            .get(picture)
+            .map_or(Vector { x: 0, y: 0 }, |predicted| centre_of(predicted))
     }
 
     fn reach(&self) -> u8 {

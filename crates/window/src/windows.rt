@@ -16,14 +16,22 @@ fn is_near(reach: u8, centre: i16, z: i16) -> bool
 pub fn contains_across<S: Stage>(stage: &S, candidate: Candidate) -> bool
     ensures { result ≡ inside_across (S.Stage.window stage.now) candidate.picture candidate.vector }
 {
-    is_near(stage.reach(), stage.centre(candidate.picture).x, candidate.vector.x)
+    is_near(
+        stage.reach(),
+        stage.centre(candidate.picture).x,
+        candidate.vector.x,
+    )
 }
 
 /// Whether the vertical component of a candidate lies in its picture's window.
 pub fn contains_down<S: Stage>(stage: &S, candidate: Candidate) -> bool
     ensures { result ≡ inside_down (S.Stage.window stage.now) candidate.picture candidate.vector }
 {
-    is_near(stage.reach(), stage.centre(candidate.picture).y, candidate.vector.y)
+    is_near(
+        stage.reach(),
+        stage.centre(candidate.picture).y,
+        candidate.vector.y,
+    )
 }
 
 /// Whether a candidate lies in its picture's window.

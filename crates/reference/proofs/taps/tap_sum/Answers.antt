@@ -1,4 +1,4 @@
-use Rattle.reference.proofs.Rounding.{tap_code}
+use Rattle.reference.proofs.TapSums.{tap_code}
 use Rattle.reference.proofs.taps.tap_sum.Goals as goal
 
 pub overflow_add-result-4 : goal.overflow_add-result-4

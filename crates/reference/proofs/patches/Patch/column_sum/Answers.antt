@@ -1,11 +1,15 @@
-use Rattle.std.proofs.Common.{◌∙◌, w32, SFits, rules}
-use Rattle.reference.specs.Patches.{column_tap}
-use Rattle.reference.proofs.TapBounds.{six_bytes}
+use Rattle.std.proofs.Common.{◌+◌, pos, ◌∙◌, w32, SFits, rules}
+use Rattle.std.proofs.lemmas.Int.{to_z-of_z}
+use Rattle.reference.specs.Patches.{column_tap, patch_at}
+use Rattle.reference.proofs.TapSums.{six_bytes}
 use Rattle.reference.proofs.patches.Patch.column_sum.Goals as goal
+
+pub tap_sum-requires : goal.tap_sum-requires
+tap_sum-requires c = (six_bytes c.six.result (λ k. patch_at c.args.self.now c.args.c (c.args.r + k)) (λ k lt. let h = c.six.ensures k lt (pos 0) in search rules)).taps
 
 pub returns : goal.returns
 unfolding column_tap
 returns c =
     let t : SFits w32 c.tap_sum.result = search rules in
-    let s = six_bytes _ _ _ _ _ _ _ t c.at-e.type_inv c.at-f.type_inv c.at-g.type_inv c.at-h.type_inv c.at-i.type_inv c.at-j.type_inv c.tap_sum.ensures in
-    record { value = s.0 ∙ cc (c.at-e.ensures, c.at-f.ensures, c.at-g.ensures, c.at-h.ensures, c.at-i.ensures, c.at-j.ensures); small = s.1 }
+    let s = six_bytes c.six.result (λ k. patch_at c.args.self.now c.args.c (c.args.r + k)) (λ k lt. let h = c.six.ensures k lt (pos 0) in search rules) in
+    simp to_z-of_z (record { value = c.tap_sum.ensures ∙ s.value; small = rw c.tap_sum.ensures s.small })

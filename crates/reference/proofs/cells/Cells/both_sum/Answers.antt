@@ -1,0 +1,15 @@
+use Rattle.std.proofs.Common.{◌+◌, pos, ◌∙◌, w32, SFits, rules}
+use Rattle.std.proofs.lemmas.Int.{to_z-of_z}
+use Rattle.reference.specs.Patches.{both_tap, row_tap}
+use Rattle.reference.proofs.TapSums.{six_sums}
+use Rattle.reference.proofs.cells.Cells.both_sum.Goals as goal
+
+pub tap_sum-requires : goal.tap_sum-requires
+tap_sum-requires c = (six_sums c.six.result (λ k. row_tap c.args.self.now.patch c.args.c (c.args.r + k)) (λ k lt. let h = c.six.ensures k lt (pos 0) in search rules)).taps
+
+pub returns : goal.returns
+unfolding both_tap
+returns c =
+    let t : SFits w32 c.tap_sum.result = search rules in
+    let s = six_sums c.six.result (λ k. row_tap c.args.self.now.patch c.args.c (c.args.r + k)) (λ k lt. let h = c.six.ensures k lt (pos 0) in search rules) in
+    simp to_z-of_z (record { value = c.tap_sum.ensures ∙ s.value; small = rw c.tap_sum.ensures s.small })
