@@ -17,9 +17,6 @@ pub record Reading (p : CostParts) (bound m sum k : ℕ) : Type 0 where
   pub under : (j : ℕ) → j < k → running p j < bound
   pub small : sum ≤ 3921 + m * k
 
-pub reading_none : (p : CostParts) (bound m base : ℕ) → base ≡ p.base → base ≤ 3921 → Reading p bound m base 0
-reading_none p bound m base e l = record { within = omega arith; sums = omega arith; under = λ j lt. absurd (omega arith); small = omega arith }
-
 -- one strip more
 pub reading_more : (p : CostParts) (bound m sum k d : ℕ) → Reading p bound m sum k → k < length p.strips → sum < bound → d ≡ cost_at p k → d ≤ m → Reading p bound m (sum + d) (k + 1)
 reading_more p bound m sum k d inv lt below e l = record {

@@ -1,7 +1,6 @@
 -- The components of predicted vectors, vetted one vector after the other.
-use Rattle.std.proofs.Common.{◌≡◌, ℕ, ◌+◌, ◌<◌, ◌≤◌, List, [], ◌∷◌, length, get_or, drop, ℤ, pos, nat_abs, Some, None, sym, ap, ◌∙◌, arith, below_more}
+use Rattle.std.proofs.Common.{◌≡◌, ℕ, ◌+◌, ◌<◌, ◌≤◌, List, [], ◌∷◌, length, get_or, drop, ℤ, pos, nat_abs, None, sym, ap, ◌∙◌, arith, below_more}
 use Rattle.std.proofs.lemmas.List.{drop_more, drop_all}
-use Rattle.picture.specs.declared.faults.Fault.{Fault}
 use Rattle.picture.specs.Faults.{Rule, first}
 use Rattle.cost.specs.Predicted.{component_rule, component_rules}
 
@@ -26,10 +25,6 @@ passed a b rs h = grind arith
 pub none_of : (a : Rule) (rs : List Rule) → first (a ∷ []) ≡ None → first rs ≡ None → first (a ∷ rs) ≡ None
 none_of a rs h g = grind arith
 
--- one of two rules applies, whatever the others are
-met : (a b : Rule) (rs : List Rule) (f : Fault) → first (a ∷ b ∷ []) ≡ Some f → first (a ∷ b ∷ rs) ≡ Some f
-met a b rs f h = grind arith
-
 -- one more vector
 pub vetted_more : (xs ys : List ℤ) (i : ℕ) → Vetted xs ys i → i < length xs → length xs ≡ length ys → (first (component_rule (get_or xs i (pos 0)) ∷ component_rule (get_or ys i (pos 0)) ∷ []) ≡ None) × NearAt xs ys i → Vetted xs ys (i + 1)
 vetted_more xs ys i v h e here =
@@ -40,14 +35,6 @@ vetted_more xs ys i v h e here =
       left = passed x y rest here.0 ∙ sym (ap first (opened xs ys i h (omega arith))) ∙ v.left;
       near = below_more (NearAt xs ys) i v.near here.1;
     }
-
--- the fault of the vector at i is the first
-pub vetted_met : (xs ys : List ℤ) (i : ℕ) (f : Fault) → Vetted xs ys i → i < length xs → length xs ≡ length ys → first (component_rule (get_or xs i (pos 0)) ∷ component_rule (get_or ys i (pos 0)) ∷ []) ≡ Some f → first (component_rules xs ys) ≡ Some f
-vetted_met xs ys i f v h e here =
-    let x = component_rule (get_or xs i (pos 0)) in
-    let y = component_rule (get_or ys i (pos 0)) in
-    let rest = component_rules (drop (i + 1) xs) (drop (i + 1) ys) in
-    sym v.left ∙ ap first (opened xs ys i h (omega arith)) ∙ met x y rest f here
 
 -- no rule applies to any vector
 pub vetted_all : (xs ys : List ℤ) (i : ℕ) → Vetted xs ys i → length xs ≤ i → first (component_rules xs ys) ≡ None

@@ -1,11 +1,13 @@
 -- The parts of a job, by its header and by its bytes.
-use Rattle.std.proofs.Common.{◌≡◌, ℕ, ◌+◌, ◌-◌, ◌<◌, ◌≤◌, List, length, get_or, take, drop, ℤ, pos, nat_abs, ap, ◌∙◌, arith}
+use Rattle.std.proofs.Common.{◌≡◌, ℕ, ◌+◌, ◌-◌, ◌<◌, ◌≤◌, List, map, length, get_or, take, drop, ℤ, pos, nat_abs, ap, ◌∙◌, arith, length-take, length-drop}
 use Rattle.std.proofs.lemmas.Slice.{between_to_end}
 use Rattle.job.specs.declared.headers.Header.{Header}
 use Rattle.job.specs.Format.{word, words, pictures_in, proposals_in, width_in, height_in, pictures_from, picture_bytes}
 use Rattle.job.specs.Headers.{Counted}
 use Rattle.job.specs.Layouts.{pixels_from, pixels}
-use Rattle.picture.proofs.Filled.{part_is}
+use Rattle.std.specs.List.{range_with_len}
+use Rattle.std.proofs.lemmas.List.FromFn.{fill_by_all}
+use Rattle.std.proofs.lemmas.List.{get_or-take, get_or-drop}
 
 -- the counts and sizes as whole numbers
 pub record Counts (b : List ℕ) (h : Header) : Type 0 where
@@ -21,6 +23,14 @@ counts b h e =
     let n : h.list.pictures ≡ nat_abs (pictures_in b) = ap nat_abs e.2 in
     let m : h.proposals ≡ nat_abs (proposals_in b) = ap nat_abs e.3 in
     record { pictures = n; proposals = m; from = cc; area = cc }
+
+-- a part of an array that holds a function's values
+part_is : {X : Type 0} (d : X) (g : ℕ → X) (xs : List X) (i n t c : ℕ) → i + n ≤ length xs → t ≡ n → n ≡ c → ((k : ℕ) → k < n → get_or xs (i + k) d ≡ g k) →
+    take t (drop i xs) ≡ map g (range_with_len 0 c)
+part_is d g xs i n t c room te ce inv =
+    rw (te, ← ce)
+    (fill_by_all g (take n (drop i xs)) n d (simp (length-take, length-drop) (omega arith))
+    (λ k lt. get_or-take n (drop i xs) k d lt ∙ get_or-drop i xs k d ∙ inv k lt))
 
 -- a part of an array that holds a job's numbers from number f on
 pub words_part : (b : List ℕ) (xs : List ℤ) (f all i n t s c : ℕ) → ((k : ℕ) → k < all → get_or xs k (pos 0) ≡ word b (f + k)) →

@@ -87,7 +87,9 @@ impl<'a> ReferenceList for ComputedList<'a> {
     }
 
     fn sample(&self, picture: usize, x: i16, y: i16) -> u8 {
-        self.pictures.get(picture).map_or(0, |plane| sample_in(&plane, x, y))
+        self.pictures
+            .get(picture)
+            .map_or(0, |plane| sample_in(&plane, x, y))
     }
 
     fn strip(&self, picture: usize, x: i16, y: i16, out: &mut [u8]) {
