@@ -9,6 +9,7 @@ pub struct Block {
     pub shape: Shape,
     pub left: usize,
     pub top: usize,
+    // Fixed memory, for the largest shape: the library never allocates.
     pub samples: [u8; 256],
     ghost near: { (left ≤ 1920) × (top ≤ 1920) },
     ghost full: { length samples ≡ 256 },

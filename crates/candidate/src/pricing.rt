@@ -45,6 +45,7 @@ impl<L: ReferenceList, M: Measure> Pricing<'_, L, M> {
     {
         let strips = self.setup.block.shape.height() / 4;
         let mut total = rate_part;
+        // By number: the block's strip and the list's are both found by it.
         for s in 0..strips {
             if total >= bound {
                 return Trial {

@@ -86,6 +86,7 @@ impl Outcome {
 
 impl Record {
     /// The record of a kind that has these numbers.
+    // The kind's word is told apart here and nowhere else. No `FromStr`, which has no place for the heap.
     pub(crate) fn read(heap: Global, kind: &str, numbers: &[i64]) -> anyhow::Result<Record> {
         match kind {
             "list" => Ok(Record::List(Shape::read(numbers))),

@@ -6,6 +6,7 @@ use pattern::{Cross, Diamond, Eight, Hexagon, Pattern, Rings, Square};
 use rate::Vector;
 
 /// Whether the pattern of that name and range has these offsets.
+// By name: each pattern has a type of its own, so that no one value stands for a name.
 pub(crate) fn offsets_agree(name: &str, listed: &Listed) -> bool {
     let offsets = listed.offsets.as_slice();
     match name {

@@ -10,12 +10,14 @@ use rate::Vector;
 #[derive(Clone, Copy)]
 pub struct Predicted {
     pub pictures: usize,
+    // Fixed memory, for the longest list: the library never allocates.
     pub vectors: [Vector; 16],
     ghost few: { (1 ≤ pictures) × (pictures ≤ 16) },
     ghost near: { AllNear vectors },
 }
 
 /// Vets the lengths of two arrays with an entry for each picture.
+// Two arrays, here and wherever an opening takes them: the engine's rules hand horizontals and verticals over so.
 pub fn vet_arrays(pictures: usize, xs: &[i16], ys: &[i16]) -> Result<(), Fault>
     ensures { Answers result (arrays_fault pictures (length xs.now) (length ys.now)) (λ _. (length xs.now ≡ pictures) × (length ys.now ≡ pictures)) }
 {

@@ -13,6 +13,7 @@ pub struct SearchRange {
 }
 
 /// Whether a window may reach so far.
+// As the test of a picture's size: one call for both would take these three numbers and say no more.
 fn is_reach(n: i64) -> bool
     ensures { result ≡ is_reach n }
 {

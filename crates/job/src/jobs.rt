@@ -15,6 +15,7 @@ use picture::Fault;
 pub struct Job<'a> {
     pub header: Header,
     pub bytes: &'a [u8],
+    // Fixed memory, for the longest job; two arrays, as the format has them and an opening takes them.
     pub(crate) xs: [i16; 80],
     pub(crate) ys: [i16; 80],
     ghost counted: { Counted bytes.now header },

@@ -21,6 +21,7 @@ fn vet_extent(found: usize) -> Result<(), Fault>
 }
 
 /// Vets the number of proposals.
+// As a list's pictures are counted: the bounds, the row and the layer are all that either says.
 fn vet_proposals(proposals: i64) -> Result<usize, Fault>
     ensures { Answers result (proposals_fault proposals) (ProposalsAre proposals) }
 {

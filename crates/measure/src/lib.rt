@@ -4,6 +4,7 @@
 mod asking;
 mod halving;
 mod measures;
+mod pairs;
 mod sums;
 mod supplied;
 mod transforms;

@@ -1,8 +1,9 @@
 //! Sums over the samples of two strips, sixteen at a time and by a signed difference: in this form the compiler makes
 //! vector code of them.
 ghost use Rattle.std.specs.Prelude.{◌≡◌, ◌*◌, ◌≤◌, length};
-ghost use Rattle.measure.specs.Strips.{Strips};
 ghost use Rattle.measure.specs.Sums.{gap, GivesAtMost, IsSumBy, sad, ssd};
+
+use crate::pairs::Pair;
 
 /// How far two samples are apart.
 fn apart(x: u8, y: u8) -> u32
@@ -22,14 +23,13 @@ fn apart_squared(x: u8, y: u8) -> u32
 }
 
 /// The sum of what `cost` gives for the samples of two strips, place by place.
-fn sum_by<F: Fn(u8, u8) -> u32>(a: &[u8], b: &[u8], cost: F) -> u32
-    requires strips { Strips a.now b.now }
+fn sum_by<F: Fn(u8, u8) -> u32>(strips: Pair<'_>, cost: F) -> u32
     requires callable { F.IsAlwaysCallable cost }
     requires most { GivesAtMost 65025 (F.post cost) }
-    ensures { IsSumBy (F.post cost) a.now b.now (length a.now) result }
+    ensures { IsSumBy (F.post cost) strips.entry.a.now strips.entry.b.now (length strips.entry.a.now) result }
 {
-    let (these, _) = a.as_chunks::<16>();
-    let (those, _) = b.as_chunks::<16>();
+    let (these, _) = strips.a.as_chunks::<16>();
+    let (those, _) = strips.b.as_chunks::<16>();
     let mut sum: u32 = 0;
     for (p, q) in these.iter().zip(those) {
         for (x, y) in p.iter().zip(q) {
@@ -40,17 +40,15 @@ fn sum_by<F: Fn(u8, u8) -> u32>(a: &[u8], b: &[u8], cost: F) -> u32
 }
 
 /// The sum of the absolute differences of two strips.
-pub fn absolute_sum(a: &[u8], b: &[u8]) -> u32
-    requires { Strips a.now b.now }
-    ensures { result ≡ sad a.now b.now }
+pub(crate) fn absolute_sum(strips: Pair<'_>) -> u32
+    ensures { result ≡ sad strips.entry.a.now strips.entry.b.now }
 {
-    sum_by(a, b, apart)
+    sum_by(strips, apart)
 }
 
 /// The sum of the squared differences of two strips.
-pub fn squared_sum(a: &[u8], b: &[u8]) -> u32
-    requires { Strips a.now b.now }
-    ensures { result ≡ ssd a.now b.now }
+pub(crate) fn squared_sum(strips: Pair<'_>) -> u32
+    ensures { result ≡ ssd strips.entry.a.now strips.entry.b.now }
 {
-    sum_by(a, b, apart_squared)
+    sum_by(strips, apart_squared)
 }

@@ -1,27 +1,13 @@
 //! The measures supplied.
-ghost use Rattle.std.specs.Prelude.{◌≡◌};
-ghost use Rattle.measure.specs.Strips.{Strips};
 ghost use Rattle.measure.specs.Sums.{sad, ssd};
 ghost use Rattle.measure.specs.Transforms.{satd};
 ghost use Rattle.measure.specs.Totals.{sad_within, ssd_most};
 ghost use Rattle.measure.specs.Squares.{satd_within};
 
-use crate::measures::{Measure, are_strips};
+use crate::measures::Measure;
+use crate::pairs::Pair;
 use crate::sums::{absolute_sum, squared_sum};
 use crate::transforms::transformed_sum;
-
-/// What `sum` gives for two strips of one width; 0 for any other two slices.
-fn if_strips<F: FnOnce(&[u8], &[u8]) -> u32>(a: &[u8], b: &[u8], sum: F) -> u32
-    requires { Strips a.now b.now → F.pre sum a b }
-    ensures strips { Strips a.now b.now → F.post sum a.entry b.entry result }
-    ensures others { (Strips a.now b.now → ⊥) → result ≡ 0 }
-{
-    if are_strips(a.len(), b.len()) {
-        sum(a, b)
-    } else {
-        0
-    }
-}
 
 /// The sum of absolute differences.
 #[derive(Clone, Copy)]
@@ -33,7 +19,7 @@ impl Measure for Sad {
     ghost most = { λ m a b x y s. sad_within a b x y };
 
     fn price(&self, a: &[u8], b: &[u8]) -> u32 {
-        if_strips(a, b, absolute_sum)
+        Pair::of(a, b).map_or(0, absolute_sum)
     }
 }
 
@@ -47,7 +33,7 @@ impl Measure for Ssd {
     ghost most = { λ m a b x y s. ssd_most a b x y };
 
     fn price(&self, a: &[u8], b: &[u8]) -> u32 {
-        if_strips(a, b, squared_sum)
+        Pair::of(a, b).map_or(0, squared_sum)
     }
 }
 
@@ -61,6 +47,6 @@ impl Measure for Satd {
     ghost most = { λ m a b x y s. satd_within a b x y };
 
     fn price(&self, a: &[u8], b: &[u8]) -> u32 {
-        if_strips(a, b, transformed_sum)
+        Pair::of(a, b).map_or(0, transformed_sum)
     }
 }

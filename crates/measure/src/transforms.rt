@@ -1,10 +1,10 @@
 //! Half the sum of absolute transformed differences, over the 4x4 squares of two strips.
 ghost use Rattle.std.specs.Prelude.{◌≡◌, ◌+◌, ◌*◌, ◌/◌, ◌<◌, ◌≤◌, length, pos, ◌+ℤ◌, ◌-ℤ◌, unsigned_abs};
-ghost use Rattle.measure.specs.Strips.{Strips};
 ghost use Rattle.measure.specs.Fours.{AllWithin, Within, entries, flipped, four_of, matrix_of, part, row, size_of, turned, turned_rows};
 ghost use Rattle.measure.specs.Sums.{total};
 ghost use Rattle.measure.specs.Transforms.{difference_at, matrix_at, satd, satd4, spread};
 
+use crate::pairs::Pair;
 use std::array::from_fn;
 
 /// Four differences, or four sums of them.
@@ -124,41 +124,40 @@ fn differences(p: &[u8; 4], q: &[u8; 4]) -> Four
 }
 
 /// The row r of the differences of the n-th square of two strips, from the left.
-fn matrix_row(a: &[u8], b: &[u8], n: usize, r: usize) -> Four
-    requires { (Strips a.now b.now) × ((n < length a.now / 16) × (r < 4)) }
-    ensures value { result ≡ four_of (matrix_at a.now b.now n r) }
+fn matrix_row(strips: Pair<'_>, n: usize, r: usize) -> Four
+    requires { (n < length strips.a.now / 16) × (r < 4) }
+    ensures value { result ≡ four_of (matrix_at strips.entry.a.now strips.entry.b.now n r) }
     ensures most { Within 255 result }
 {
-    let (these, _) = a.as_chunks::<4>();
-    let (those, _) = b.as_chunks::<4>();
-    let place = r * (a.len() / 16) + n;
+    let (these, _) = strips.a.as_chunks::<4>();
+    let (those, _) = strips.b.as_chunks::<4>();
+    let place = r * (strips.a.len() / 16) + n;
     differences(&these[place], &those[place])
 }
 
 /// The differences of the n-th square of two strips, from the left.
-fn matrix_at(a: &[u8], b: &[u8], n: usize) -> Matrix
-    requires { (Strips a.now b.now) × (n < length a.now / 16) }
-    ensures value { result ≡ matrix_of (matrix_at a.now b.now n) }
+fn matrix_at(strips: Pair<'_>, n: usize) -> Matrix
+    requires { n < length strips.a.now / 16 }
+    ensures value { result ≡ matrix_of (matrix_at strips.entry.a.now strips.entry.b.now n) }
     ensures most { AllWithin 255 result }
 {
     from_fn(
         |r|
-            requires { (Strips a.now b.now) × ((n < length a.now / 16) × (r < 4)) }
-            ensures value { result ≡ four_of (matrix_at a.entry.now b.entry.now n r) }
+            requires { (n < length strips.a.now / 16) × (r < 4) }
+            ensures value { result ≡ four_of (matrix_at strips.entry.a.now strips.entry.b.now n r) }
             ensures most { Within 255 result }
-        { matrix_row(a, b, n, r) },
+        { matrix_row(strips, n, r) },
     )
 }
 
 /// The sum over the squares of two strips.
-pub fn transformed_sum(a: &[u8], b: &[u8]) -> u32
-    requires { Strips a.now b.now }
-    ensures { result ≡ satd a.now b.now }
+pub(crate) fn transformed_sum(strips: Pair<'_>) -> u32
+    ensures { result ≡ satd strips.entry.a.now strips.entry.b.now }
 {
     let mut sum: u32 = 0;
     // By number: the rows of a square do not stand side by side, so that no slice has squares for its items.
-    for n in 0..a.len() / 16 {
-        sum += square_cost(matrix_at(a, b, n));
+    for n in 0..strips.a.len() / 16 {
+        sum += square_cost(matrix_at(strips, n));
     }
     sum
 }

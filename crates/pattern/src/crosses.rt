@@ -18,6 +18,7 @@ pub struct Cross {
 }
 
 /// The cross of a range, which is vetted.
+// As the rings': one line, of which the type is all that differs.
 impl TryFrom<i64> for Cross {
     type Error = Fault;
 

@@ -52,10 +52,9 @@ fn print_centres(
     setup: &Setup,
     pictures: &ReferencePictures<'_>,
 ) -> io::Result<()> {
-    for picture in 0..pictures.size.pictures {
-        if let Some(line) = centre_line(setup, pictures, picture) {
-            println!(rt; "{line}")?;
-        }
+    let numbers = 0..pictures.size.pictures;
+    for line in numbers.filter_map(|picture| centre_line(setup, pictures, picture)) {
+        println!(rt; "{line}")?;
     }
     Ok(())
 }

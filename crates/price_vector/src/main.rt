@@ -8,7 +8,7 @@ use anyhow::anyhow;
 use arguments::read_candidate;
 use candidate::Candidate;
 use cost::Setup;
-use lines::price_line;
+use lines::Prices;
 use opening::{open, read_job};
 use reference::ComputedList;
 use std::env;
@@ -66,39 +66,39 @@ fn read_arguments(rt: &HostRuntime) -> anyhow::Result<Asked> {
 fn answer(rt: &HostRuntime, named: Option<Candidate>) -> anyhow::Result<()> {
     let bytes = read_job(rt.stdin(), rt.alloc())?;
     match open(bytes.as_slice()) {
-        Ok((job, setup)) => print_prices(rt, &setup, &ComputedList::new(job.reference()), named)?,
-        Err(fault) => println!(rt; "{fault}")?,
+        Ok((job, setup)) => {
+            let list = ComputedList::new(job.reference());
+            let prices = Prices {
+                setup: &setup,
+                list: &list,
+            };
+            print_prices(rt, &prices, named)
+        }
+        Err(fault) => Ok(println!(rt; "{fault}")?),
     }
-    Ok(())
 }
 
 /// Prints the named vector's line, or one for the centre of each picture's window.
 fn print_prices(
     rt: &HostRuntime,
-    setup: &Setup,
-    list: &ComputedList<'_>,
+    prices: &Prices<'_>,
     named: Option<Candidate>,
 ) -> anyhow::Result<()> {
     if let Some(candidate) = named {
-        return print_price(rt, setup, list, candidate);
+        return print_price(rt, prices, candidate);
     }
-    for picture in 0..setup.predicted.pictures {
-        if let Some(centre) = Candidate::centre(setup, picture) {
-            print_price(rt, setup, list, centre)?;
-        }
+    let setup = prices.setup;
+    let pictures = 0..setup.predicted.pictures;
+    for centre in pictures.filter_map(|picture| Candidate::centre(setup, picture)) {
+        print_price(rt, prices, centre)?;
     }
     Ok(())
 }
 
 /// Prints the line of one vector, or says why it has no price.
-fn print_price(
-    rt: &HostRuntime,
-    setup: &Setup,
-    list: &ComputedList<'_>,
-    candidate: Candidate,
-) -> anyhow::Result<()> {
-    let Some(line) = price_line(setup, list, candidate) else {
-        return Err(unpriced(setup, candidate));
+fn print_price(rt: &HostRuntime, prices: &Prices<'_>, candidate: Candidate) -> anyhow::Result<()> {
+    let Some(line) = prices.line(candidate) else {
+        return Err(unpriced(prices.setup, candidate));
     };
     println!(rt; "{line}")?;
     Ok(())

@@ -12,6 +12,7 @@ use crate::taps::{mean_of, rounded, six, tap_sum};
 #[derive(Clone, Copy)]
 pub(crate) struct Cells {
     pub patch: Patch,
+    // Fixed memory, for 16 columns and 9 rows.
     pub sums: [i32; 144],
     ghost summed: { RowSums patch sums },
 }
@@ -54,6 +55,7 @@ impl Cells {
     }
 
     /// A part of the cell at column `i`, row `r` of the rectangle.
+    // A column and a row are of this patch: a struct of the two could not say of which.
     #[tactic(auto, unfolding(crate::specs::Interpolation::rounded, crate::specs::Interpolation::rounded_twice))]
     fn part(&self, part: Part, i: usize, r: usize) -> u8
         requires { (i < self.now.patch.width) × (r < self.now.patch.height) }

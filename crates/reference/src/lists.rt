@@ -21,6 +21,7 @@ pub trait ReferenceList {
         ensures { result ≡ (meaning self.now).height };
 
     /// The sample at (`x`, `y`) in quarter samples; 0 in a picture that there is not.
+    // Numbers, and no struct of them: what a buyer writes is a formula of these three.
     fn sample(&self, picture: usize, x: i16, y: i16) -> u8
         ensures { result ≡ (meaning self.now).at picture x y };
 

@@ -6,6 +6,7 @@ ghost use Rattle.std.specs.Prelude.{◌≤◌};
 pub(crate) struct Patch {
     pub width: usize,
     pub height: usize,
+    // Fixed memory, for 21 columns and 9 rows: the library never allocates.
     pub samples: [u8; 189],
     ghost narrow: { (1 ≤ width) × (width ≤ 16) },
     ghost low: { (1 ≤ height) × (height ≤ 4) },

@@ -12,6 +12,8 @@ fn is_near(reach: u8, centre: i16, z: i16) -> bool
     z.abs_diff(centre) <= reach as u16
 }
 
+// Two calls of one line: a component as a parameter would be longer than the line that it spares.
+
 /// Whether the horizontal component of a candidate lies in its picture's window.
 pub fn contains_across<S: Stage>(stage: &S, candidate: Candidate) -> bool
     ensures { result ≡ inside_across (S.Stage.window stage.now) candidate.picture candidate.vector }

@@ -6,7 +6,7 @@ use Rattle.measure.proofs.sums.sum_by.Given as goal
 abbrev pub invariant-loop-p : goal.invariant-loop-p
 invariant-loop-p g l = record {
   small : l.sum ≤ 65025 * (16 * length l.yielded);
-  so_far : IsSumBy (goal.F-post g l.cost) l.a l.b (16 * length l.yielded) l.sum;
+  so_far : IsSumBy (goal.F-post g l.cost) l.strips.a.now l.strips.b.now (16 * length l.yielded) l.sum;
 }
 
 abbrev pub invariant-loop-x : goal.invariant-loop-x

@@ -7,13 +7,13 @@ use Rattle.measure.proofs.transforms.transformed_sum.Goals as goal
 
 pub loop-n-preserved : goal.loop-n-preserved
 loop-n-preserved c =
-    total_step (satd_at c.args.a.now c.args.b.now) 32640 _ _ _ c.loop-n.invariant
+    total_step (satd_at c.args.strips.a.now c.args.strips.b.now) 32640 _ _ _ c.loop-n.invariant
     (c.square_cost-sum.ensures.value ∙ ap (λ x. satd4 (entries x)) c.matrix_at.ensures.value) c.square_cost-sum.ensures.most
 
 pub overflow_add-sum : goal.overflow_add-sum
-overflow_add-sum c = let s = strip_lengths c.args.a.now c.args.b.now c.requires in omega (arith, c.loop-n.invariant.1, c.square_cost-sum.ensures.most)
+overflow_add-sum c = let s = strip_lengths c.args.strips.a.now c.args.strips.b.now c.args.strips.strips in omega (arith, c.loop-n.invariant.1, c.square_cost-sum.ensures.most)
 
 pub returns : goal.returns
 returns c =
-    let all : c.loop-n.n ≡ length c.args.a.now / 16 = omega arith in
-    total_done (satd_at c.args.a.now c.args.b.now) 32640 _ _ _ c.loop-n.invariant all
+    let all : c.loop-n.n ≡ length c.args.strips.a.now / 16 = omega arith in
+    total_done (satd_at c.args.strips.a.now c.args.strips.b.now) 32640 _ _ _ c.loop-n.invariant all
