@@ -55,7 +55,7 @@ impl Shape {
     }
 
     /// The height in samples.
-    // A table of its own: the shapes fall into other groups than by width.
+    // A table of its own: by height the shapes fall into other groups than by width.
     pub fn height(self) -> usize
         ensures value { result ≡ shape_height self }
         ensures bound { (4 ≤ result) × (result ≤ 16) }

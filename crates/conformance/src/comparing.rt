@@ -1,14 +1,14 @@
 //! The list in hand, and what it gives.
-ghost use Rattle.std.specs.Prelude.{◌≡◌, ◌↔◌, IsTrue};
-ghost use Rattle.reference.specs.Lists.{is_strip};
+ghost use Rattle.std.specs.Prelude.{◌↔◌, IsTrue};
 ghost use Rattle.conformance.specs.Outcomes.{Gives, HasStrip};
 
-use crate::records::{Outcome, Shape};
+use crate::records::{Outcome, Place, Shape};
 use picture::{ReferencePictures, vet_list};
-use reference::{ComputedList, DrawnList, ReferenceList};
+use reference::{ComputedList, DrawnList, ReferenceList, is_strip};
 use std::alloc::{AllocError, Global};
 
 /// The list that results are compared with: one that is drawn, where there is one, else one of lent pictures.
+// No enum of the two: where a record makes no drawn list, the lent pictures are in hand still.
 #[derive(Drop)]
 pub(crate) struct Held {
     shape: Shape,
@@ -70,21 +70,16 @@ impl Outcome {
             Outcome::Sample(place, sample) => {
                 list.sample(place.picture, place.x, place.y) == *sample
             }
-            Outcome::Strip(place, samples) => strip_is(
-                list,
-                place.picture,
-                place.x,
-                place.y,
-                samples.as_slice(),
-            ),
+            Outcome::Strip(place, samples) => strip_is(list, *place, samples.as_slice()),
         }
     }
 }
 
 /// Whether a list has this strip at a place.
-fn strip_is<L: ReferenceList>(list: &L, picture: usize, x: i16, y: i16, samples: &[u8]) -> bool
-    ensures { IsTrue result ↔ HasStrip (L.ReferenceList.meaning list.now) picture x y samples.now }
+fn strip_is<L: ReferenceList>(list: &L, place: Place, samples: &[u8]) -> bool
+    ensures { IsTrue result ↔ HasStrip (L.ReferenceList.meaning list.now) place.picture place.x place.y samples.now }
 {
+    let Place { picture, x, y } = place;
     if !is_strip(samples.len()) || x > 32_707 || y > 32_755 {
         return false;
     }
@@ -92,11 +87,4 @@ fn strip_is<L: ReferenceList>(list: &L, picture: usize, x: i16, y: i16, samples:
     let strip = &mut strip[..samples.len()];
     list.strip(picture, x, y, strip);
     &*strip == samples
-}
-
-/// Whether a strip may have so many samples.
-fn is_strip(n: usize) -> bool
-    ensures { result ≡ is_strip n }
-{
-    matches!(n, 16 | 32 | 64)
 }

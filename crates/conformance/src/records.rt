@@ -112,7 +112,7 @@ fn drawn(numbers: &[i64]) -> Option<DrawnList> {
     Some(DrawnList::new(size, a, b, c))
 }
 
-/// Samples, with 0 for a number that is none.
+/// Samples, with 0 for a number that is none: what such a table says then differs from what a list gives.
 fn samples(heap: Global, numbers: &[i64]) -> Result<Vec<u8>, AllocError> {
     numbers
         .iter()

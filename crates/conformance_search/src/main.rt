@@ -2,12 +2,12 @@
 #![tactic(auto)]
 
 mod costs;
-mod listed;
+mod offsets;
 mod patterns;
 mod rounds;
 
 use anyhow::anyhow;
-use listed::Listed;
+use offsets::Offsets;
 use std::alloc::Global;
 use std::io::Read;
 use tally::{Tally, numbers};
@@ -30,6 +30,7 @@ fn run(rt: &HostRuntime) -> anyhow::Result<()> {
 }
 
 /// One record: results to compare.
+// Three kinds, of which each is compared at once: no value of a record stands between.
 fn take(tally: &mut Tally, heap: Global, line: &str) -> anyhow::Result<()> {
     let mut words = line.split(' ');
     match words.next().unwrap_or("") {
@@ -40,12 +41,12 @@ fn take(tally: &mut Tally, heap: Global, line: &str) -> anyhow::Result<()> {
         }
         "offsets" => {
             let name = words.next().unwrap_or("");
-            let listed = Listed::read(heap, numbers(heap, words)?.as_slice())?;
-            tally.count(listed.is_some_and(|listed| patterns::offsets_agree(name, &listed)));
+            let record = Offsets::read(heap, numbers(heap, words)?.as_slice())?;
+            tally.count(record.is_some_and(|record| patterns::offsets_agree(name, &record)));
         }
         "round" => {
-            let listed = Listed::read(heap, numbers(heap, words)?.as_slice())?;
-            tally.count(listed.is_some_and(|listed| rounds::round_agrees(&listed)));
+            let record = Offsets::read(heap, numbers(heap, words)?.as_slice())?;
+            tally.count(record.is_some_and(|record| rounds::round_agrees(&record)));
         }
         _ => return Err(anyhow!("an unknown record")),
     }

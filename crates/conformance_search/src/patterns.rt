@@ -1,22 +1,22 @@
 //! Patterns, compared with a table of their offsets.
 ghost use Rattle.std.specs.Prelude.{◌≡◌, ◌↔◌, IsTrue};
 
-use crate::listed::Listed;
+use crate::offsets::Offsets;
 use pattern::{Cross, Diamond, Eight, Hexagon, Pattern, Rings, Square};
 use rate::Vector;
 
 /// Whether the pattern of that name and range has these offsets.
 // By name: each pattern has a type of its own, so that no one value stands for a name.
-pub(crate) fn offsets_agree(name: &str, listed: &Listed) -> bool {
-    let offsets = listed.offsets.as_slice();
+pub(crate) fn offsets_agree(name: &str, record: &Offsets) -> bool {
+    let offsets = record.offsets.as_slice();
     match name {
         "diamond" => lists(&Diamond, offsets),
         "hexagon" => lists(&Hexagon, offsets),
         "square" => lists(&Square, offsets),
         "eight1" => lists(&Eight::One, offsets),
         "eight2" => lists(&Eight::Two, offsets),
-        "cross" => Cross::try_from(listed.far).is_ok_and(|cross| lists(&cross, offsets)),
-        "rings" => Rings::try_from(listed.far).is_ok_and(|rings| lists(&rings, offsets)),
+        "cross" => Cross::try_from(record.far).is_ok_and(|cross| lists(&cross, offsets)),
+        "rings" => Rings::try_from(record.far).is_ok_and(|rings| lists(&rings, offsets)),
         _ => false,
     }
 }

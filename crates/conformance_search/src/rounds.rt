@@ -3,7 +3,7 @@ ghost use Rattle.std.specs.Prelude.{◌≡◌, ◌↔◌, IsTrue, map, ◌+ℤ�
 ghost use Rattle.pattern.specs.Offsets.{moved};
 ghost use Rattle.window.specs.Rounds.{round_of};
 
-use crate::listed::Listed;
+use crate::offsets::Offsets;
 use block::BlockRequest;
 use candidate::Candidate;
 use cost::Setup;
@@ -12,9 +12,10 @@ use rate::Vector;
 use window::{Quarter, Round, Stage, Whole};
 
 /// Whether a full round of that reach goes through these offsets; 3 is the second stage's reach.
-pub(crate) fn round_agrees(listed: &Listed) -> bool {
-    let offsets = listed.offsets.as_slice();
-    match listed.far {
+pub(crate) fn round_agrees(record: &Offsets) -> bool {
+    let offsets = record.offsets.as_slice();
+    // The table names a stage by its reach alone, and no search range is 3.
+    match record.far {
         3 => handed().is_some_and(|quarter| goes_through(&quarter, offsets)),
         reach => whole_of(reach).is_ok_and(|whole| goes_through(&whole, offsets)),
     }
@@ -64,9 +65,9 @@ fn goes_through<S: Stage>(stage: &S, offsets: &[Vector]) -> bool
 fn is_moved(vector: Vector, from: Vector, offset: Vector) -> bool
     ensures { IsTrue result ↔ (vector ≡ moved from offset) }
 {
-    let level = is_sum(vector.x, from.x, offset.x);
-    let upright = is_sum(vector.y, from.y, offset.y);
-    level && upright
+    let across = is_sum(vector.x, from.x, offset.x);
+    let down = is_sum(vector.y, from.y, offset.y);
+    across && down
 }
 
 /// Whether a component is the sum of two, which may need more bits.

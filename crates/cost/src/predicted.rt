@@ -52,6 +52,7 @@ impl Predicted {
     {
         vet_arrays(list.pictures, xs, ys)?;
         let mut vectors = [Vector { x: 0, y: 0 }; 16];
+        // By number: zipped with two arrays, the loop would ask for what the adapters keep.
         for (k, vector) in vectors[..list.pictures].iter_mut().enumerate() {
             *vector = vet_vector(xs[k], ys[k])?;
         }

@@ -33,6 +33,7 @@ fn vet_same_size(current: PictureSize, listed: PictureSize) -> Result<(), Fault>
 }
 
 impl Setup {
+    // One by one, as an opening takes them: each has a rule of its own, and the arrays are lent.
     /// Vets the arrays of predicted vectors, the block, the list's size, the settings, then the predicted vectors; copies the block and those vectors.
     pub fn new(
         current: &Plane<'_>,

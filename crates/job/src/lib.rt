@@ -12,4 +12,4 @@ mod vetting;
 pub use headers::Header;
 pub use jobs::Job;
 pub use vectors::Vectors;
-pub use vetting::vet_job;
+pub use vetting::{LONGEST, vet_job};

@@ -10,14 +10,22 @@ use crate::reading::read_head;
 use picture::{Fault, Layer, ListSize, Row, vet_bytes, vet_count, vet_list, vet_picture, vet_size};
 
 /// The most bytes that a job may have.
-const LONGEST: usize = 65_536;
+pub const LONGEST: usize = 65_536;
 
-/// Vets that a job has a head and is not too long; the value of one too long is always the same.
+/// The bytes of a job's head.
+const HEAD: usize = 20;
+
+/// Vets that a job has a head and is not too long; the value of one too long is 65,537 however long it is.
 fn vet_extent(found: usize) -> Result<(), Fault>
     ensures { Answers result (extent_fault found) (λ _. InExtent found) }
 {
-    Fault::unless(found <= LONGEST, Row::ByteLength, Layer::JobFile, 65_537)?;
-    Fault::unless(found >= 20, Row::ByteLength, Layer::JobFile, found as i64)
+    Fault::unless(
+        found <= LONGEST,
+        Row::ByteLength,
+        Layer::JobFile,
+        LONGEST as i64 + 1,
+    )?;
+    Fault::unless(found >= HEAD, Row::ByteLength, Layer::JobFile, found as i64)
 }
 
 /// Vets the number of proposals.

@@ -40,3 +40,7 @@ done_within x h = rows_within 1020 (flipped (turned_rows x)) (flipped_within 102
 pub done_is : (x : List (List ℤ)) → (size_of (row (done x) 0) + size_of (row (done x) 1) + size_of (row (done x) 2) + size_of (row (done x) 3)) / 2 ≡ satd4 (entries x)
 done_is x =
     ap (λ n. (n + size_of (row (done x) 1) + size_of (row (done x) 2) + size_of (row (done x) 3)) / 2) (sym (zero-add (size_of (row (done x) 0))))
+
+-- four numbers are the same where each is
+pub same_four : {a b c d x y z w : ℤ} → a ≡ x → b ≡ y → c ≡ z → d ≡ w → a ∷ b ∷ c ∷ d ∷ [] ≡ x ∷ y ∷ z ∷ w ∷ []
+same_four p q r s = cc

@@ -19,5 +19,5 @@ pub trait Measure {
 pub fn are_strips(m: usize, n: usize) -> bool
     ensures { result ≡ are_strips m n }
 {
-    m == n && (m == 16 || m == 32 || m == 64)
+    m == n && matches!(m, 16 | 32 | 64)
 }

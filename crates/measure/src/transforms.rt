@@ -70,6 +70,7 @@ fn four_size(x: &Four) -> u32
     ensures value { result ≡ size_of x.now }
     ensures most { result ≤ 16320 }
 {
+    // A `for`, here and below: its invariant has the bound that a `sum` would ask for.
     let mut sum: u32 = 0;
     for v in x {
         sum += v.unsigned_abs();

@@ -1,5 +1,5 @@
 -- The crosses and the rings by index.
-use Rattle.std.specs.Prelude.{◌≡◌, ℕ, zero, suc, ◌+◌, ◌-◌, ◌*◌, ◌/◌, ◌%◌, ◌<◌, ◌≤◌, List, map, length, get_or, ℤ, pos, slice_index_or, unsigned_abs, refl}
+use Rattle.std.specs.Prelude.{◌≡◌, ℕ, zero, suc, ◌+◌, ◌-◌, ◌*◌, ◌/◌, ◌%◌, ◌<◌, ◌≤◌, List, map, length, get_or, ℤ, pos, ◌-ℤ◌, ◌*ℤ◌, slice_index_or, unsigned_abs, refl}
 use Rattle.std.proofs.Common.{sym, ap, subst, ◌∙◌, ⊎_elim, arith, length-append}
 use Rattle.std.specs.List.{range_with_len, flat_map}
 use Rattle.std.proofs.lemmas.List.{get_or_append_left, get_or-append_right, get_or_past, get_or-map}
@@ -121,3 +121,7 @@ pub eight_short : (e : Eight) (k : ℕ) → Within 64 (slice_index_or (eight (di
 unfolding eight
 eight_short One k = each_within 64 (eight 1) refl k
 eight_short Two k = each_within 64 (eight 2) refl k
+
+-- the component that comes second of a pair, by what the code works out
+pub odd_minus : (i : ℕ) (z : ℤ) → i % 2 ≡ 1 → z ≡ pos 1 -ℤ pos 2 *ℤ pos (1 + i / 2) → z ≡ odd_at i
+odd_minus i z r e = subst (λ (k : ℕ). z ≡ slice_index_or (oddly (1 + i / 2)) k (pos 0)) (sym r) e

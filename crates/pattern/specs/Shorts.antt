@@ -1,9 +1,10 @@
 -- Bounds on the components of offsets.
-use Rattle.std.specs.Prelude.{◌≡◌, ℕ, zero, suc, ◌*◌, ◌≤◌, Bool, IsTrue, ◌&&◌, List, [], ◌∷◌, map, pos, nat_le, slice_index_or, unsigned_abs, refl}
+use Rattle.std.specs.Prelude.{◌≡◌, ℕ, zero, suc, ◌*◌, ◌≤◌, Bool, IsTrue, ◌&&◌, List, [], ◌∷◌, map, ℤ, pos, FitsSigned, nat_le, slice_index_or, unsigned_abs, refl}
 use Rattle.std.specs.List.{list_all}
 use Rattle.std.proofs.Common.{arith, mul-le-mul_left}
 use Rattle.std.proofs.Math.IntN.{*ℤ-zero}
-use Rattle.std.proofs.lemmas.Int.{unsigned_abs-mul}
+use Rattle.std.specs.Int.{w16}
+use Rattle.std.proofs.lemmas.Int.{ints, unsigned_abs-mul}
 use Rattle.std.proofs.lemmas.Bool.{and_parts, leb-true}
 use Rattle.rate.specs.declared.vectors.Vector.{Vector}
 use Rattle.pattern.specs.Offsets.{still, Within, times}
@@ -30,3 +31,11 @@ pub get_or_times : (k : ℕ) (os : List Vector) (i : ℕ) → slice_index_or (ma
 get_or_times k [] i = rw *ℤ-zero refl
 get_or_times k (o ∷ os) zero = refl
 get_or_times k (o ∷ os) (suc i) = get_or_times k os i
+
+-- a component of a stretched offset is a 16-bit number
+pub small_fits : (z : ℤ) → unsigned_abs z ≤ 4355 → FitsSigned w16 z
+small_fits z h = omega (arith, ints)
+
+-- what bounds an offset's components bounds them with more
+pub within_more : (m n : ℕ) (o : Vector) → Within m o → m ≤ n → Within n o
+within_more m n o h le = (omega arith, omega arith)

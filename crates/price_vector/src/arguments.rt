@@ -10,11 +10,7 @@ use rate::Vector;
 pub(crate) fn component(z: i64) -> Option<i16>
     ensures { result ≡ named_component z }
 {
-    if (-4400..=4400).contains(&z) {
-        Some(z as i16)
-    } else {
-        None
-    }
+    i16::try_from(z).ok().filter(|z| (-4400..=4400).contains(z))
 }
 
 /// The component that a word names.

@@ -1,11 +1,12 @@
 //! The lines of a job's vectors.
 ghost use Rattle.std.specs.Prelude.{◌≡◌};
 ghost use Rattle.reference.specs.Computed.{computed};
+ghost use Rattle.candidate.specs.Strips.{price_of};
 ghost use Rattle.price_vector.specs.Lines.{line_of};
 
-use candidate::{Candidate, Pricing};
+use candidate::{Candidate, Price, Pricing};
 use cost::Setup;
-use measure::{Sad, Satd, Ssd};
+use measure::{Measure, Sad, Satd, Ssd};
 use opening::Line;
 use reference::ComputedList;
 
@@ -17,29 +18,26 @@ pub(crate) struct Prices<'a> {
 }
 
 impl Prices<'_> {
+    /// The price of a candidate by a measure; nothing where it has none.
+    fn price<M: Measure>(&self, measure: &M, candidate: Candidate) -> Option<Price>
+        ensures { result ≡ price_of self.now.setup.now (computed self.now.list.now) (M.cost measure.now) candidate }
+    {
+        let Prices { setup, list } = *self;
+        let pricing = Pricing {
+            setup,
+            list,
+            measure,
+        };
+        pricing.price(candidate)
+    }
+
     /// The line of a candidate, with its cost under each measure; nothing where it has no price.
     pub(crate) fn line(&self, candidate: Candidate) -> Option<Line<3>>
         ensures { result ≡ line_of self.now.setup.now (computed self.now.list.now) candidate }
     {
-        let Prices { setup, list } = *self;
-        let sad = Pricing {
-            setup,
-            list,
-            measure: &Sad,
-        }
-        .price(candidate)?;
-        let ssd = Pricing {
-            setup,
-            list,
-            measure: &Ssd,
-        }
-        .price(candidate)?;
-        let satd = Pricing {
-            setup,
-            list,
-            measure: &Satd,
-        }
-        .price(candidate)?;
+        let sad = self.price(&Sad, candidate)?;
+        let ssd = self.price(&Ssd, candidate)?;
+        let satd = self.price(&Satd, candidate)?;
         Some(Line {
             candidate,
             rate_part: sad.rate_part,

@@ -74,7 +74,10 @@ fn answer(rt: &HostRuntime, named: Option<Candidate>) -> anyhow::Result<()> {
             };
             print_prices(rt, &prices, named)
         }
-        Err(fault) => Ok(println!(rt; "{fault}")?),
+        Err(fault) => {
+            println!(rt; "{fault}")?;
+            Ok(())
+        }
     }
 }
 

@@ -55,7 +55,7 @@ impl Cells {
     }
 
     /// A part of the cell at column `i`, row `r` of the rectangle.
-    // A column and a row are of this patch: a struct of the two could not say of which.
+    // A column and a row, here and above: a struct that ties the two to their patch would be made anew for each sample.
     #[tactic(auto, unfolding(crate::specs::Interpolation::rounded, crate::specs::Interpolation::rounded_twice))]
     fn part(&self, part: Part, i: usize, r: usize) -> u8
         requires { (i < self.now.patch.width) × (r < self.now.patch.height) }

@@ -38,7 +38,7 @@ pub(crate) fn fill_rows<T: Copy, F: Fn(usize, usize) -> T>(out: &mut [T], extent
     requires callable { (column row : ℕ) → column < extent.width → row < extent.height → F.pre value column row }
     ensures { (k : ℕ) → k < length out.old → HoldsAt (F.post value (k % extent.width) (k / extent.width)) out.new k }
 {
-    // by index: what is written through `chunks_exact_mut` is not known to a proof
+    // By number: what is written through `chunks_exact_mut` is not known to a proof.
     for row in 0..extent.height {
         let from = row * extent.width;
         fill_row(

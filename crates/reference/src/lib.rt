@@ -17,6 +17,6 @@ mod vetting;
 
 pub use computed::ComputedList;
 pub use drawn::DrawnList;
-pub use lists::ReferenceList;
+pub use lists::{ReferenceList, is_strip};
 pub use marked::examples_hold;
 pub use vetting::vet_drawn;

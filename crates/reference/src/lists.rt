@@ -45,6 +45,13 @@ pub trait ReferenceList {
     }
 }
 
+/// Whether a strip may have so many samples: four rows of 4, 8 or 16.
+pub fn is_strip(n: usize) -> bool
+    ensures { result ≡ is_strip n }
+{
+    matches!(n, 16 | 32 | 64)
+}
+
 /// `by` whole samples further, in quarter samples.
 pub(crate) fn along(z: i16, by: usize) -> i16
     requires { Reaches z by }

@@ -32,11 +32,11 @@ pub(crate) enum Fraction {
     ThreeQuarters,
 }
 
-impl Fraction {
-    /// That of a place in quarter samples.
-    pub(crate) fn of(z: i16) -> Fraction
-        ensures { quarters result ≡ unsigned_abs (int_rem_euclid z (pos 4)) }
-    {
+/// That of a place in quarter samples.
+impl From<i16> for Fraction {
+    ghost from_gives = { λ z f. quarters f ≡ unsigned_abs (int_rem_euclid z (pos 4)) };
+
+    fn from(z: i16) -> Fraction {
         match z.rem_euclid(4) {
             0 => Fraction::Zero,
             1 => Fraction::Quarter,

@@ -27,8 +27,8 @@ impl Position {
         Position {
             column: x.div_euclid(4),
             row: y.div_euclid(4),
-            across: Fraction::of(x),
-            down: Fraction::of(y),
+            across: Fraction::from(x),
+            down: Fraction::from(y),
         }
     }
 }

@@ -15,6 +15,7 @@ fn further(z: i16, by: usize) -> i32
 }
 
 /// Rows of whole samples from a column and a row on, each sample clamped.
+// The first column and row are signed here and below, and where all lies inside they are not: no one struct has both.
 fn clamp_rows(plane: &Plane<'_>, column: i16, row: i16, extent: Extent, out: &mut [u8])
     requires { length out.old ≡ extent.height * extent.width }
     ensures { (k : ℕ) → k < length out.old → slice_index out.new k ≡ grid_sample (grid_of plane.now) column row extent.width k }
@@ -36,7 +37,7 @@ fn copy_rows(plane: &Plane<'_>, column: usize, row: usize, extent: Extent, out: 
     ensures { (k : ℕ) → k < length out.old → slice_index out.new k ≡ grid_sample (grid_of plane.now) (pos column) (pos row) extent.width k }
 {
     let width = extent.width;
-    // by index: what is written through `chunks_exact_mut` is not known to a proof
+    // By number: what is written through `chunks_exact_mut` is not known to a proof.
     for r in 0..extent.height {
         let from = (row + r) * plane.size.width + column;
         let to = r * width;

@@ -11,7 +11,7 @@ pub(crate) fn six<F: Fn(usize) -> i32>(read: F) -> [i32; 6]
     requires { (k : ℕ) → k < 6 → F.pre read k }
     ensures { (k : ℕ) → k < 6 → HoldsAt (F.post read k) result k }
 {
-    // written out: `array::from_fn` says of each call only that some state of the closure answered
+    // Written out: `array::from_fn` says of each call only that some state of the closure answered.
     [read(0), read(1), read(2), read(3), read(4), read(5)]
 }
 

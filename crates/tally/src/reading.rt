@@ -2,9 +2,10 @@
 ghost use Rattle.std.specs.Prelude.{◌≡◌, List, [], ◌∷◌, ◌++◌, Some, IfOk, IsErrOf};
 ghost use Rattle.std.specs.List.{AllZip};
 ghost use Rattle.tally.specs.Reasons.{reason_text};
+ghost use Rattle.tally.specs.declared.reading.BadRecord.TheVariants.{OutOfMemory};
 ghost use Rattle.std.specs.Iterator.{IsFinite, Drains, Yields};
 
-use std::alloc::Global;
+use std::alloc::{AllocFailed, Global};
 use std::error::Error;
 use std::fmt;
 use std::str::FromStr;
@@ -29,6 +30,14 @@ impl fmt::Display for BadRecord {
 
 impl Error for BadRecord {}
 
+impl<T: Drop> From<AllocFailed<T>> for BadRecord {
+    ghost from_gives = { λ _ e. e ≡ OutOfMemory };
+
+    fn from(_unpushed: AllocFailed<T>) -> BadRecord {
+        Self::OutOfMemory
+    }
+}
+
 /// The numbers that words say, in their order.
 #[tactic(auto, using(std::proofs::lemmas::Slice::Zip::all_zipped_more))]
 pub fn numbers<'a, T: FromStr + Drop, W: Iterator<Item = &'a str> + Drop>(
@@ -45,7 +54,7 @@ where
     let mut numbers = Vec::new(heap);
     for word in words {
         let number = word.parse().map_err(|_| BadRecord::NotANumber)?;
-        numbers.push(number).map_err(|_| BadRecord::OutOfMemory)?;
+        numbers.push(number)?;
     }
     Ok(numbers)
 }

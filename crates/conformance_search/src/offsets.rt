@@ -2,16 +2,16 @@
 use rate::Vector;
 use std::alloc::{AllocError, Global};
 
-/// A range or a reach, and the offsets that belong to it.
+/// What a record of offsets says: the range or the reach that they belong to, and the offsets.
 #[derive(Drop)]
-pub(crate) struct Listed {
+pub(crate) struct Offsets {
     pub far: i64,
     pub offsets: Vec<Vector>,
 }
 
-impl Listed {
+impl Offsets {
     /// A number, then pairs of components; nothing where a component has no pair, or no vector can have it.
-    pub(crate) fn read(heap: Global, numbers: &[i64]) -> Result<Option<Listed>, AllocError> {
+    pub(crate) fn read(heap: Global, numbers: &[i64]) -> Result<Option<Offsets>, AllocError> {
         let &[far, ref components @ ..] = numbers else {
             return Ok(None);
         };
@@ -25,6 +25,6 @@ impl Listed {
             };
             offsets.push(Vector { x, y })?;
         }
-        Ok(Some(Listed { far, offsets }))
+        Ok(Some(Offsets { far, offsets }))
     }
 }
