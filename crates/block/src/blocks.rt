@@ -1,5 +1,5 @@
 //! A block of the current picture.
-ghost use Rattle.std.specs.Prelude.{◌≡◌, ◌≤◌, length};
+ghost use Rattle.std.specs.Prelude.{◌≡◌, ℕ, ◌<◌, ◌≤◌, length, slice_index};
 
 use crate::shapes::Shape;
 
@@ -13,4 +13,5 @@ pub struct Block {
     pub samples: [u8; 256],
     ghost near: { (left ≤ 1920) × (top ≤ 1920) },
     ghost full: { length samples ≡ 256 },
+    ghost bytes: { (k : ℕ) → slice_index samples k < 256 },
 }

@@ -1,11 +1,11 @@
 -- At a whole-sample vector the computing list has the picture's own samples, so J by SAD is worked out from those.
-use Rattle.std.proofs.Common.{◌≡◌, ℕ, zero, suc, ◌+◌, ◌*◌, ◌/◌, ◌%◌, ◌<◌, ◌≤◌, Bool, true, false, leb, Option, Some, None, nat_abs, ◌-ℤ◌, cond, List, [], ◌∷◌, map, length, ltb, ℤ, pos, negsuc, ◌+ℤ◌, ◌*ℤ◌, sym, refl, ap, ◌∙◌, arith, length-take, length-drop, lit≤}
+use Rattle.std.proofs.Common.{◌≡◌, ℕ, zero, suc, ◌+◌, ◌*◌, ◌/◌, ◌%◌, ◌<◌, ◌≤◌, Bool, true, false, leb, Option, Some, None, nat_abs, ◌-ℤ◌, cond, List, [], ◌∷◌, map, length, ltb, ℤ, pos, negsuc, ◌+ℤ◌, ◌*ℤ◌, sym, refl, ap, ◌∙◌, arith, length-take, length-drop, lit≤, lit<, IfSome, drop}
 use Rattle.std.specs.Int.{int_div_euclid, int_rem_euclid}
 use Rattle.std.proofs.lemmas.Int.{ints, int_rem_euclid_is}
 use Rattle.std.specs.List.{range_with_len}
 use Rattle.picture.specs.declared.pictures.ReferencePictures.{ReferencePictures}
 use Rattle.picture.specs.Planes.{Grid, grid_sample}
-use Rattle.picture.specs.Pictures.{whole_of}
+use Rattle.picture.specs.Pictures.{area, picture_of, whole_of}
 use Rattle.reference.specs.declared.computed.ComputedList.{ComputedList}
 use Rattle.reference.specs.Interpolation.{cell, quarter}
 use Rattle.reference.specs.Lists.{strip_at, strip_of}
@@ -17,6 +17,8 @@ use Rattle.candidate.specs.Rating.{rate_part_of}
 use Rattle.block.specs.declared.blocks.Block.{Block}
 use Rattle.block.specs.Shapes.{shape_width, shape_height}
 use Rattle.measure.specs.Sums.{sad, total}
+use Rattle.measure.specs.Totals.{total_most, asked_sad_most}
+use Rattle.reference.specs.Bytes.{Bytes, bytes_take, bytes_drop, byte_if, grid_byte}
 use Rattle.std.proofs.lemmas.Bool.Decides.{nat_tests}
 use Rattle.rate.specs.Lengths.{is_tabled}
 use Rattle.cost.proofs.Quarters.{floor_is}
@@ -120,3 +122,41 @@ price_at s l r false c e is = absurd (grind (arith, is))
 pub price_is : (s : Setup) (l : ComputedList) (p : ReferencePictures) (r : ℕ) (c : Candidate) (answer : Option Price) →
     Some c ≡ centre_candidate s r → l.pictures ≡ p → answer ≡ price_of s (computed l) sad c → answer ≡ centre_price s (whole_of p r) r
 price_is s l p r c answer is e got = got ∙ price_at s l r (ltb r s.predicted.pictures) c refl is ∙ ap (λ (q : ReferencePictures). centre_price s (whole_of q r) r) e
+
+-- samples are bytes, and so are those of a strip: of the block
+block_bytes : (b : Block) (s : ℕ) → Bytes (block_strip b s)
+block_bytes b s = bytes_take (4 * shape_width b.shape) (drop (s * (4 * shape_width b.shape)) b.samples) (bytes_drop (s * (4 * shape_width b.shape)) b.samples b.bytes)
+
+-- and of a picture
+grid_bytes : (g : Grid) → ((x y : ℤ) → g x y < 256) → (x y : ℤ) (w : ℕ) → Bytes (grid_strip g x y w)
+unfolding grid_strip
+grid_bytes g small x y w = bytes_map (range_with_len 0 (4 * w))
+  where
+    bytes_map : (ks : List ℕ) → Bytes (map (grid_sample g x y w) ks)
+    bytes_map [] k = lit< tt
+    bytes_map (j ∷ ks) zero = small _ _
+    bytes_map (j ∷ ks) (suc k) = bytes_map ks k
+
+-- the SAD of a block has four summands at most
+block_sad_most : (b : Block) (g : Grid) (x y : ℤ) → ((X Y : ℤ) → g X Y < 256) → block_sad b g x y ≤ 65280
+block_sad_most b g x y small =
+    let each = total_most (strip_sad b g x y) 16320 (shape_height b.shape / 4)
+    (λ s. asked_sad_most (block_strip b s) (grid_strip g (pos b.left +ℤ x) (pos (b.top + 4 * s) +ℤ y) (shape_width b.shape))
+    (λ k. omega (arith, block_bytes b s k)) (λ k. omega (arith, grid_bytes g small (pos b.left +ℤ x) (pos (b.top + 4 * s) +ℤ y) (shape_width b.shape) k))) in
+    let few = few_strips b.shape in
+    omega (arith, each, few.0)
+
+-- the whole samples of a list's pictures
+whole_byte : (l : ReferencePictures) (r : ℕ) (x y : ℤ) → whole_of l r x y < 256
+whole_byte l r x y =
+    byte_if (ltb r l.size.pictures) _
+    (grid_byte l.size.picture.width l.size.picture.height (picture_of l r)
+    (bytes_take (area l.size.picture) (drop (r * area l.size.picture) l.samples.now) (bytes_drop (r * area l.size.picture) l.samples.now l.bytes)) x y)
+
+price_within : (s : Setup) (g : Grid) (r : ℕ) (v : Vector) → ((X Y : ℤ) → g X Y < 256) → (b : Bool) → IfSome (cond b (Some (whole_price s g r v)) None) (λ price. price.cost ≤ price.rate_part + 65280)
+price_within s g r v small true = omega (arith, block_sad_most s.block g v.x v.y small)
+price_within s g r v small false = tt
+
+-- so J of the centre is its rate part and little more
+pub price_most : (s : Setup) (p : ReferencePictures) (r : ℕ) → IfSome (centre_price s (whole_of p r) r) (λ price. price.cost ≤ price.rate_part + 65280)
+price_most s p r = price_within s (whole_of p r) r (centre_in (predicted_in s r)) (whole_byte p r) (ltb r s.predicted.pictures)

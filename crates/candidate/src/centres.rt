@@ -1,5 +1,5 @@
 //! The price of the centre of a window, by SAD.
-ghost use Rattle.std.specs.Prelude.{◌≡◌};
+ghost use Rattle.std.specs.Prelude.{◌≡◌, ◌+◌, ◌≤◌, IfSome};
 ghost use Rattle.picture.specs.Pictures.{whole_of};
 ghost use Rattle.candidate.specs.Centres.{centre_price};
 
@@ -17,7 +17,8 @@ pub fn price_centre(
     pictures: &ReferencePictures<'_>,
     picture: usize,
 ) -> Option<Price>
-    ensures { result ≡ centre_price setup.now (whole_of pictures.now picture) picture }
+    ensures value { result ≡ centre_price setup.now (whole_of pictures.now picture) picture }
+    ensures most { IfSome result (λ p. p.cost ≤ p.rate_part + 65280) }
 {
     let candidate = Candidate::centre(setup, picture)?;
     let list = ComputedList::new(*pictures);

@@ -7,6 +7,7 @@ use measure::{Measure, Sad, Satd, Ssd};
 use std::alloc::Global;
 
 /// The value of a hexadecimal digit.
+// By hand: `to_digit` takes capitals too, which no table has.
 fn digit(c: u8) -> anyhow::Result<u8>
     ensures { IfOk result (λ d. d < 16) }
 {

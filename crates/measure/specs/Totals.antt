@@ -1,9 +1,9 @@
 -- Sums over places: one more, and a bound. Of use to other measures too.
-use Rattle.std.specs.Prelude.{◌≡◌, ℕ, zero, suc, ◌+◌, ◌*◌, ◌/◌, ◌≤◌, List, length}
+use Rattle.std.specs.Prelude.{◌≡◌, ℕ, zero, suc, ◌+◌, ◌*◌, ◌/◌, ◌≤◌, Bool, true, false, cond, List, length, refl}
 use Rattle.std.proofs.Common.{sym, ◌∙◌, ap, add-one, arith}
 use Rattle.std.proofs.lemmas.Nat.{mul-le}
 use Rattle.std.proofs.lemmas.Bool.Decides.{nat_tests}
-use Rattle.measure.specs.Strips.{Bytes, Strips}
+use Rattle.measure.specs.Strips.{Bytes, Strips, are_strips, asked}
 use Rattle.measure.specs.Sums.{total, gap_at, square_at, sad, ssd}
 
 pub total_more : (f : ℕ → ℕ) (i : ℕ) → total (i + 1) f ≡ total i f + f i
@@ -41,6 +41,14 @@ gap_most a b x y k = omega (arith, x k, y k)
 
 pub sad_most : (a b : List ℕ) → Bytes a → Bytes b → sad a b ≤ 255 * length a
 sad_most a b x y = total_most (gap_at a b) 255 (length a) (gap_most a b x y)
+
+-- what is asked of two strips: they have 64 samples each at most
+pub asked_sad_most : (a b : List ℕ) → Bytes a → Bytes b → asked sad a b ≤ 16320
+asked_sad_most a b x y = by (are_strips (length a) (length b)) refl
+  where
+    by : (t : Bool) → are_strips (length a) (length b) ≡ t → cond t (sad a b) 0 ≤ 16320
+    by true e = let l = strip_lengths a b (rw e tt) in omega (arith, sad_most a b x y, l.2)
+    by false e = omega arith
 
 -- so that SAD too keeps the bound of every measure
 pub sad_within : (a b : List ℕ) → Bytes a → Bytes b → sad a b ≤ 65025 * length a

@@ -6,6 +6,7 @@ use rate::{Qp, Vector, code_length, vector_rate};
 use std::test::Fail;
 
 /// The numbers printed for a refusal, and zeros for what is accepted.
+// A plain tuple: the values of the tests stand as they were first worked out.
 fn told<T: Drop>(answer: Result<T, Fault>) -> (u8, u8, i64) {
     match answer {
         Ok(_) => (0, 0, 0),

@@ -26,6 +26,7 @@ Where the job is refused, prints one line
 docs/JOB.md has the format of a job and every refusal.";
 
 /// What is asked of a job.
+// Three things, and so no `Option`: help is printed without a job.
 enum Asked {
     Help,
     Centres,

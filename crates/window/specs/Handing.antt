@@ -12,5 +12,5 @@ is_inside s r v = (whole_of s).named r && inside (whole_of s) r v
 
 -- the second stage about that vector, with the same setup
 pub record Handed (s : Setup) (r : ℕ) (v : Vector) (q : Quarter) : Type 0 where
-  pub window : quarter q.picture q.vector ≡ handed (whole_of s) r v
+  pub window : quarter q.handed.picture q.handed.vector ≡ handed (whole_of s) r v
   pub setup : q.setup ≡ s

@@ -8,6 +8,7 @@ ghost use Rattle.window.specs.Windows.{Apart};
 ghost use Rattle.window.specs.Nearness.{quarter_priced};
 
 use crate::stages::Stage;
+use candidate::Candidate;
 use cost::Setup;
 use rate::Vector;
 
@@ -15,15 +16,14 @@ use rate::Vector;
 #[derive(Clone, Copy)]
 pub struct Quarter {
     pub setup: Setup,
-    pub picture: usize,
-    pub vector: Vector,
-    ghost listed: { picture < setup.predicted.pictures },
-    ghost near: { Within 4352 vector },
-    ghost tabled: { Apart 258 vector (predicted_in setup picture) },
+    pub handed: Candidate,
+    ghost listed: { handed.picture < setup.predicted.pictures },
+    ghost near: { Within 4352 handed.vector },
+    ghost tabled: { Apart 258 handed.vector (predicted_in setup handed.picture) },
 }
 
 impl Stage for Quarter {
-    ghost window = { λ s. quarter s.picture s.vector };
+    ghost window = { λ s. quarter s.handed.picture s.handed.vector };
 
     ghost setup = { λ s. s.setup };
 
@@ -32,18 +32,19 @@ impl Stage for Quarter {
     ghost central = { λ s r. s.near };
 
     ghost priced = { λ s c named t.
-        quarter_priced s.setup s.picture s.vector c s.listed s.near s.tabled named t };
+        quarter_priced s.setup s.handed.picture s.handed.vector c s.listed s.near s.tabled named t };
 
+    // A trait has no fields: each stage lends its own.
     fn setup(&self) -> &Setup {
         &self.setup
     }
 
     fn names(&self, picture: usize) -> bool {
-        picture == self.picture
+        picture == self.handed.picture
     }
 
     fn centre(&self, _picture: usize) -> Vector {
-        self.vector
+        self.handed.vector
     }
 
     fn reach(&self) -> u8 {

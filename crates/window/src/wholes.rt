@@ -29,8 +29,10 @@ impl Whole {
     {
         Quarter {
             setup: self.setup,
-            picture: handed.picture,
-            vector: self.quarters(handed.vector),
+            handed: Candidate {
+                picture: handed.picture,
+                vector: self.quarters(handed.vector),
+            },
         }
     }
 

@@ -11,7 +11,7 @@ loop-s-preserved g c =
     let cost = g.M.Measure.cost c.args.self.now.measure.now in
     let n = strips_many c.args.self.now.setup.now m cost c.args.candidate in
     let is = strip_costs c.args.self.now.setup.now m cost c.args.candidate c.loop-s.s (omega (arith, c.height-strips.ensures.value)) in
-    reading_more (parts_of c.args.self.now.setup.now m cost c.args.candidate) c.args.bound 4161600 c.loop-s.total c.loop-s.s c.strip_cost-total.result c.loop-s.invariant (omega (arith, n, c.height-strips.ensures.value)) (omega arith) (c.strip_cost-total.ensures.value ∙ sym is) c.strip_cost-total.ensures.most
+    reading_more (parts_of c.args.self.now.setup.now m cost c.args.candidate) c.args.bound 4161600 c.loop-s.total c.loop-s.s c.strip_cost-total.result c.loop-s.invariant (omega (arith, n, c.height-strips.ensures.value)) (omega arith) (rw is c.strip_cost-total.ensures.value) c.strip_cost-total.ensures.most
 
 pub returns-then-total-bound-clause-tried : goal.returns-then-total-bound-clause-tried
 returns-then-total-bound-clause-tried g c = reading_met (parts_of c.args.self.now.setup.now (g.L.ReferenceList.meaning c.args.self.now.list.now) (g.M.Measure.cost c.args.self.now.measure.now) c.args.candidate) c.args.bound 4161600 c.loop-s.total c.loop-s.s c.loop-s.s c.loop-s.invariant c.if-total-bound.true refl
