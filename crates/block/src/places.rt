@@ -23,6 +23,8 @@ pub(crate) struct Place {
     pub top: usize,
 }
 
+// A span and a size, here and below: two numbers of one axis, which nothing keeps together.
+
 /// Whether a block that spans so many columns, or rows, may begin there.
 fn is_place(z: i64, span: usize, size: usize) -> bool
     requires { (0 < span) × (span ≤ 16) }

@@ -32,6 +32,7 @@ impl TryFrom<(i64, i64)> for Shape {
             (8, 4) => Ok(Shape::B8x4),
             (4, 8) => Ok(Shape::B4x8),
             (4, 4) => Ok(Shape::B4x4),
+            // Written out: `unless` wants a test, and here the match is the test.
             (width, _) => Err(Fault {
                 row: Row::BlockShape,
                 layer: Layer::Block,

@@ -12,6 +12,7 @@ impl Candidate {
     pub fn whole(picture: usize, vector: Vector) -> Option<Candidate>
         ensures { result ≡ whole_candidate picture vector }
     {
+        // By component: `*` asks that the multiple be a vector, and here it need not be one.
         let vector = Vector {
             x: vector.x.checked_mul(4)?,
             y: vector.y.checked_mul(4)?,

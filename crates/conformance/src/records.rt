@@ -35,6 +35,7 @@ pub(crate) enum Record {
     Outcome(Option<Outcome>),
 }
 
+// Here and below an `Option`: a record that says nothing has no reason to give, as `try_from` would want.
 impl Shape {
     fn read(numbers: &[i64]) -> Option<Shape> {
         let &[width, height, pictures] = numbers else {

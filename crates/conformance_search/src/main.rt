@@ -17,7 +17,7 @@ fn main(rt: HostRuntime) -> anyhow::Result<()> {
 }
 
 /// Reads the table, record by record, and prints the counts.
-// Each program has this loop: a library's would have to name what standard input gives, which no contract can.
+// Each program has this loop: a library's would take a closure that keeps what it has seen, and its clause would be the loop again.
 fn run(rt: &HostRuntime) -> anyhow::Result<()> {
     let mut text = String::new(rt.alloc());
     rt.stdin().read_to_string(&mut text)?;

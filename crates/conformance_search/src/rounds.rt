@@ -71,6 +71,7 @@ fn is_moved(vector: Vector, from: Vector, offset: Vector) -> bool
 }
 
 /// Whether a component is the sum of two, which may need more bits.
+// By component: `+` asks that the sum be a vector.
 fn is_sum(z: i16, a: i16, b: i16) -> bool
     ensures { IsTrue result ↔ (z ≡ a +ℤ b) }
 {

@@ -41,6 +41,7 @@ impl<'a> Job<'a> {
     }
 
     /// The proposals, in whole samples.
+    // As the predicted vectors: the range is all that differs, and a call would take its two ends.
     pub fn proposals(&self) -> Vectors<'_>
         ensures xs { result.xs.now ≡ proposed_x self.now.bytes.now }
         ensures ys { result.ys.now ≡ proposed_y self.now.bytes.now }

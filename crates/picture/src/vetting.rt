@@ -24,7 +24,7 @@ fn vet_side(layer: Layer, side: i64) -> Result<usize, Fault>
 }
 
 /// Vets a width and a height.
-// Two numbers as they stand, here and below: a struct of what is not vetted yet would say no more than their names.
+// Two numbers as they stand, here and below: nothing keeps them together before they are vetted.
 pub fn vet_size(layer: Layer, width: i64, height: i64) -> Result<PictureSize, Fault>
     ensures { Answers result (size_fault layer width height) (SizeIs width height) }
 {

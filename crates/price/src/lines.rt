@@ -8,21 +8,26 @@ use cost::Setup;
 use opening::Line;
 use picture::ReferencePictures;
 
-/// The line of the centre of a picture's window; nothing for a picture that has no predicted vector.
-pub(crate) fn centre_line(
-    setup: &Setup,
-    pictures: &ReferencePictures<'_>,
-    picture: usize,
-) -> Option<Line<1>>
-    ensures { result ≡ centre_line setup.now (whole_of pictures.now picture) picture }
-{
-    let price = price_centre(setup, pictures, picture)?;
-    Some(Line {
-        candidate: Candidate {
-            picture,
-            vector: price.vector,
-        },
-        rate_part: price.rate_part,
-        costs: [price.cost],
-    })
+/// What the centres of a job's windows are priced with.
+#[derive(Clone, Copy)]
+pub(crate) struct Centres<'a> {
+    pub setup: &'a Setup,
+    pub pictures: ReferencePictures<'a>,
+}
+
+impl Centres<'_> {
+    /// The line of the centre of a picture's window; nothing for a picture that has no predicted vector.
+    pub(crate) fn line(&self, picture: usize) -> Option<Line<1>>
+        ensures { result ≡ centre_line self.now.setup.now (whole_of self.now.pictures picture) picture }
+    {
+        let price = price_centre(self.setup, &self.pictures, picture)?;
+        Some(Line {
+            candidate: Candidate {
+                picture,
+                vector: price.vector,
+            },
+            rate_part: price.rate_part,
+            costs: [price.cost],
+        })
+    }
 }

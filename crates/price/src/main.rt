@@ -4,10 +4,8 @@
 mod lines;
 
 use anyhow::anyhow;
-use cost::Setup;
-use lines::centre_line;
+use lines::Centres;
 use opening::{open, read_job};
-use picture::ReferencePictures;
 use std::{env, io};
 
 const USAGE: &str = "usage: price < JOB
@@ -41,19 +39,21 @@ fn run(rt: &HostRuntime) -> anyhow::Result<()> {
 /// Prints the prices of a job, or its refusal.
 fn answer(rt: &HostRuntime, bytes: &[u8]) -> io::Result<()> {
     match open(bytes) {
-        Ok((job, setup)) => print_centres(rt, &setup, &job.reference()),
+        Ok((job, setup)) => {
+            let centres = Centres {
+                setup: &setup,
+                pictures: job.reference(),
+            };
+            print_centres(rt, &centres)
+        }
         Err(fault) => println!(rt; "{fault}"),
     }
 }
 
 /// Prints a line for the centre of each picture's window.
-fn print_centres(
-    rt: &HostRuntime,
-    setup: &Setup,
-    pictures: &ReferencePictures<'_>,
-) -> io::Result<()> {
-    let numbers = 0..pictures.size.pictures;
-    for line in numbers.filter_map(|picture| centre_line(setup, pictures, picture)) {
+fn print_centres(rt: &HostRuntime, centres: &Centres<'_>) -> io::Result<()> {
+    let numbers = 0..centres.pictures.size.pictures;
+    for line in numbers.filter_map(|picture| centres.line(picture)) {
         println!(rt; "{line}")?;
     }
     Ok(())

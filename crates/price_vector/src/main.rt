@@ -64,6 +64,7 @@ fn read_arguments(rt: &HostRuntime) -> anyhow::Result<Asked> {
 }
 
 /// Reads a job and prints its prices, or its refusal.
+// As `price` does: what is printed of a job is all of it that is not shared already.
 fn answer(rt: &HostRuntime, named: Option<Candidate>) -> anyhow::Result<()> {
     let bytes = read_job(rt.stdin(), rt.alloc())?;
     match open(bytes.as_slice()) {

@@ -1,6 +1,7 @@
 //! Worked examples of SAD.
 use measure::{Measure, Sad};
 
+// As in the tests of `price`: each program keeps those that it had.
 #[test]
 fn sad_by_hand(rt: HostRuntime) {
     let flat = [100u8; 64];

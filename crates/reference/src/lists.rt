@@ -46,6 +46,7 @@ pub trait ReferenceList {
 }
 
 /// Whether a strip may have so many samples: four rows of 4, 8 or 16.
+// As `are_strips` of `measure`, of one length: neither crate stands on the other.
 pub fn is_strip(n: usize) -> bool
     ensures { result ≡ is_strip n }
 {

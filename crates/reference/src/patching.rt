@@ -57,6 +57,7 @@ impl Patch {
     }
 
     /// The tap sum of a column, from row `r` on.
+    // As that of a row: one line, of which the axis is all that differs.
     pub(crate) fn column_sum(&self, c: usize, r: usize) -> i32
         requires { (c < self.now.width + 5) × (r < self.now.height) }
         ensures value { result ≡ column_tap self.now c r }
