@@ -2,7 +2,8 @@
 
     python3 tests/price_jobs.py PROGRAM
 
-Standard output has to agree byte for byte and the exit status has to be 0.
+Standard output and the exit status have to agree. Some jobs are priced at one named
+vector; where that has no price, one line on standard error says why.
 """
 import itertools
 import random
@@ -269,15 +270,62 @@ def run(program, pieces, words=()):
         return output, "none after 20 seconds", told
 
 
-def agrees(program, label, job, pieces):
+def named_vectors():
+    """(label, job, (picture, x, y)): jobs with one vector named."""
+    rng = random.Random(3)
+    for i in range(60):
+        bw, bh = model.SHAPES[i % len(model.SHAPES)]
+        n = rng.choice((1, 2, 4))
+        width, height = 16 * rng.randint(1, 3), 16 * rng.randint(1, 3)
+        pred = [(rng.randint(-300, 300), rng.randint(-300, 300)) for _ in range(n)]
+        job = make(
+            width=width, height=height, n=n, m=1, bw=bw, bh=bh,
+            left=random_place(rng, bw, width),
+            top=random_place(rng, bh, height),
+            qp=(7 * i) % 52, pred=pred, samples=random_planes(rng, width, height, n + 1))
+        r = rng.randrange(n)
+        reach = rng.choice((1, 3, 20, 261))
+        x, y = (p + rng.randint(-reach, reach) for p in pred[r])
+        yield f"named {i}", job, (r, x, y)
+    for x, y in ((261, 0), (-261, 261), (262, 0), (0, -262), (0, 262)):
+        job = make(pred=[(0, 0), (100, -100)])
+        yield f"difference {x},{y}", job, (1, 100 + x, y - 100)
+    far = make(n=1, m=0, pred=[(-4096, 4096)])
+    yield "far out", far, (0, -4357, 4357)
+    yield "too far out", far, (0, -4358, 4357)
+    yield "farthest that may be named", far, (0, -4400, 4400)
+    for r in (2, 3, 16, 65536):
+        yield f"no picture {r}", make(), (r, 0, 0)
+    yield "named in a refused job", make(qp=52), (0, 0, 0)
+    yield "named past the pictures of a refused job", make(w=6), (9, 0, 0)
+
+
+def bad_arguments():
+    """Words that are refused before a job is read."""
+    return (["0"], ["0", "0"], ["0", "0", "0", "0"], ["-1", "0", "0"], ["x", "0", "0"],
+            ["0", "4401", "0"], ["0", "0", "-4401"], ["0", "1.5", "0"], ["0", "", "0"],
+            ["0", "70000", "0"], ["0", "9999999999999999999999", "0"])
+
+
+def agrees(program, label, job, pieces, named=None):
     """Compares one run with the model; prints the difference."""
-    expected = model.price(job).encode()
-    found, status, _ = run(program, pieces)
-    if (found, status) == (expected, 0):
+    output, wanted = model.price(job, named)
+    words = [str(word) for word in named or ()]
+    found, status, told = run(program, pieces, words)
+    if (found, status, told.count(b"\n")) == (output.encode(), wanted, wanted):
         return True
     print(f"{label}, a job of {len(job)} bytes")
-    print(f"  expected {expected!r}, exit status 0")
-    print(f"  found    {found!r}, exit status {status}")
+    print(f"  expected {output!r}, exit status {wanted}, as many lines on standard error")
+    print(f"  found    {found!r}, exit status {status}, standard error {told!r}")
+    return False
+
+
+def refuses(program, words):
+    """Whether bad arguments end with status 1 and one line on standard error."""
+    found, status, told = run(program, (make(),), words)
+    if (found, status, told.count(b"\n")) == (b"", 1, 1):
+        return True
+    print(f"arguments {words}: {found!r}, exit status {status}, standard error {told!r}")
     return False
 
 
@@ -286,7 +334,10 @@ def main():
         sys.exit("usage: price_jobs.py PROGRAM")
     program = sys.argv[1]
     whole = ((label, job, (job,)) for label, job in all_jobs())
-    results = [agrees(program, *entry) for entry in itertools.chain(whole, jobs_in_pieces())]
+    named = ((label, job, (job,), vector) for label, job, vector in named_vectors())
+    jobs = itertools.chain(whole, jobs_in_pieces(), named)
+    results = [agrees(program, *entry) for entry in jobs]
+    results += [refuses(program, words) for words in bad_arguments()]
     passed = results.count(True)
     failed = results.count(False)
     print(f"{passed} passed, {failed} failed")

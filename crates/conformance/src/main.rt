@@ -2,10 +2,18 @@
 #![tactic(auto)]
 
 mod comparing;
+mod costs;
+mod offsets;
+mod patterns;
 mod records;
+mod rounds;
 
-use crate::comparing::Held;
-use crate::records::Record;
+use comparing::Held;
+use costs::costs_agree;
+use offsets::Offsets;
+use patterns::offsets_agree;
+use records::Record;
+use rounds::round_agrees;
 use std::alloc::Global;
 use std::io::Read;
 use tally::{Tally, numbers};
@@ -15,7 +23,6 @@ fn main(rt: HostRuntime) -> anyhow::Result<()> {
 }
 
 /// Reads the table, record by record, and prints the counts.
-// Each program has this loop: a library's would take a closure that keeps what it has seen, and its clause would be the loop again.
 fn run(rt: &HostRuntime) -> anyhow::Result<()> {
     let mut text = String::new(rt.alloc());
     rt.stdin().read_to_string(&mut text)?;
@@ -28,12 +35,36 @@ fn run(rt: &HostRuntime) -> anyhow::Result<()> {
     Ok(())
 }
 
-/// One record: a list to hold, more of it, or a result to compare.
+/// One record: a list to hold, more of it, or results to compare.
+// Costs, offsets and rounds are compared at once, each by itself: no value of theirs stands between.
 fn take(held: &mut Held, tally: &mut Tally, heap: Global, line: &str) -> anyhow::Result<()> {
     let mut words = line.split(' ');
-    let kind = words.next().unwrap_or("");
-    let numbers = numbers(heap, words)?;
-    match Record::read(heap, kind, numbers.as_slice())? {
+    match words.next().unwrap_or("") {
+        "costs" => {
+            for agrees in costs_agree(heap, words)? {
+                tally.count(agrees);
+            }
+        }
+        "offsets" => {
+            let name = words.next().unwrap_or("");
+            let record = Offsets::read(heap, numbers(heap, words)?.as_slice())?;
+            tally.count(record.is_some_and(|record| offsets_agree(name, &record)));
+        }
+        "round" => {
+            let record = Offsets::read(heap, numbers(heap, words)?.as_slice())?;
+            tally.count(record.is_some_and(|record| round_agrees(&record)));
+        }
+        kind => {
+            let record = Record::read(heap, kind, numbers(heap, words)?.as_slice())?;
+            compare(held, tally, record)?;
+        }
+    }
+    Ok(())
+}
+
+/// A list to hold, more of it, or a result of it to compare.
+fn compare(held: &mut Held, tally: &mut Tally, record: Record) -> anyhow::Result<()> {
+    match record {
         Record::List(shape) => held.begin(shape),
         Record::Drawn(list) => held.draw(list),
         Record::Samples(samples) => held.extend(samples.as_slice())?,
@@ -43,3 +74,6 @@ fn take(held: &mut Held, tally: &mut Tally, heap: Global, line: &str) -> anyhow:
     }
     Ok(())
 }
+
+/// The words of a record that are left.
+type Words<'a> = std::str::Split<'a, char>;

@@ -1,3 +1,3 @@
-mod Components
-mod Copies
-pub mod Quarters
+pub mod Blocks
+pub mod Totals
+pub mod Wholes

@@ -1,4 +1,6 @@
-pub mod Ranges
+pub mod Candidates
+pub mod Rating
+pub mod Prices
+pub mod Strips
+pub mod Marked
 pub mod Centres
-pub mod Predicted
-pub mod Setups

@@ -1,23 +1,31 @@
-//! Centres of search windows.
-ghost use Rattle.std.specs.Prelude.{◌≡◌, pos, ◌+ℤ◌};
-ghost use Rattle.cost.specs.Centres.{centre_of, centre_in, Floor4};
+//! The price of the centre of a window, by SAD.
+ghost use Rattle.std.specs.Prelude.{◌≡◌, ◌+◌, ◌≤◌, IfSome};
+ghost use Rattle.picture.specs.Pictures.{whole_of};
+ghost use Rattle.cost.specs.Centres.{centre_price};
 
-use rate::Vector;
+use crate::candidates::Candidate;
+use crate::prices::Price;
+use crate::pricing::Pricing;
+use measure::Sad;
+use picture::ReferencePictures;
+use reference::ComputedList;
+use settings::Setup;
 
-/// The whole sample nearest to a component of a predicted vector: floor((p + 2) / 4).
-pub fn centre(p: i16) -> i16
-    ensures value { result ≡ centre_of p }
-    ensures floor { Floor4 (p +ℤ pos 2) result }
+/// The price, under SAD, of the centre of a picture's window; nothing for a picture that has no predicted vector.
+pub fn price_centre(
+    setup: &Setup,
+    pictures: &ReferencePictures<'_>,
+    picture: usize,
+) -> Option<Price>
+    ensures value { result ≡ centre_price setup.now (whole_of pictures.now picture) picture }
+    ensures most { IfSome result (λ p. p.cost ≤ p.rate_part + 65280) }
 {
-    (p as i32 + 2).div_euclid(4) as i16
-}
-
-/// The centre of the window of a predicted vector, in whole samples.
-pub fn centre_of(predicted: Vector) -> Vector
-    ensures { result ≡ centre_in predicted }
-{
-    Vector {
-        x: centre(predicted.x),
-        y: centre(predicted.y),
-    }
+    let candidate = Candidate::centre(setup, picture)?;
+    let list = ComputedList::new(*pictures);
+    let pricing = Pricing {
+        setup,
+        list: &list,
+        measure: &Sad,
+    };
+    pricing.price(candidate)
 }

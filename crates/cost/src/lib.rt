@@ -1,13 +1,18 @@
-//! What vectors are priced with: the settings, the predicted vectors and the centres of windows.
+//! What a candidate costs: its rate part and the costs of the block's strips, over any list and by any measure.
 #![tactic(auto)]
 
+mod candidates;
 mod centres;
-mod predicted;
-mod ranges;
-mod setting_up;
-mod setups;
+mod marked;
+mod prices;
+mod pricing;
+mod rating;
+mod stages;
+mod strips;
 
-pub use centres::{centre, centre_of};
-pub use predicted::{Predicted, vet_arrays};
-pub use ranges::SearchRange;
-pub use setups::Setup;
+pub use candidates::Candidate;
+pub use centres::price_centre;
+pub use marked::examples_hold;
+pub use prices::{Price, Trial};
+pub use pricing::Pricing;
+pub use rating::rate_part;

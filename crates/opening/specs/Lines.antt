@@ -2,7 +2,7 @@
 use Rattle.std.specs.Prelude.{ℕ, List, ◌++◌, codes, decimal}
 use Rattle.std.specs.List.{flat_map}
 use Rattle.std.specs.Fmt.{signed_decimal}
-use Rattle.candidate.specs.declared.candidates.Candidate.{Candidate}
+use Rattle.cost.specs.declared.candidates.Candidate.{Candidate}
 
 -- a space and a number
 abbrev pub spaced : ℕ → List ℕ

@@ -3,8 +3,8 @@ use Rattle.std.specs.Prelude.{◌≡◌, ℕ, ◌⊎◌, List, Some, Option}
 use Rattle.picture.specs.declared.faults.Fault.{Fault}
 use Rattle.picture.specs.Planes.{Grid, grid}
 use Rattle.block.specs.declared.places.BlockRequest.{BlockRequest}
-use Rattle.cost.specs.declared.setups.Setup.{Setup}
-use Rattle.cost.specs.Setups.{setup_fault, SetupIs}
+use Rattle.settings.specs.declared.setups.Setup.{Setup}
+use Rattle.settings.specs.Setups.{setup_fault, SetupIs}
 use Rattle.job.specs.declared.jobs.Job.{Job}
 use Rattle.job.specs.Vetting.{job_fault}
 use Rattle.job.specs.Format.{left_in, top_in, block_width_in, block_height_in, qp_in, range_in, predicted_x, predicted_y, current_in}

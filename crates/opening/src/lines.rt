@@ -2,7 +2,7 @@
 ghost use Rattle.std.specs.Prelude.{Some};
 ghost use Rattle.opening.specs.Lines.{line_text};
 
-use candidate::Candidate;
+use cost::Candidate;
 use std::fmt;
 
 /// A vector in a picture, the rate part of its cost, and its cost under each of some measures.

@@ -3,9 +3,9 @@ ghost use Rattle.std.specs.Prelude.{◌≡◌, MatchResult};
 ghost use Rattle.picture.specs.Faults.{Answers};
 ghost use Rattle.opening.specs.Openings.{opening_fault, OpenedBy, Refused};
 
-use cost::Setup;
 use job::Job;
 use picture::Fault;
+use settings::Setup;
 
 /// The block and the settings that a job asks for.
 pub fn set_up(job: &Job<'_>) -> Result<Setup, Fault>

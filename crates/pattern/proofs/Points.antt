@@ -2,7 +2,7 @@
 use Rattle.std.proofs.Common.{◌≡◌, ℕ, ◌+◌, ◌*◌, ◌/◌, ◌%◌, ◌≤◌, ◌<◌, ◌∙◌, IsTrue, List, map, slice_index_or, sym, ap, subst, refl, arith}
 use Rattle.std.specs.List.{list_all}
 use Rattle.rate.specs.declared.vectors.Vector.{Vector}
-use Rattle.cost.specs.Ranges.{Reach}
+use Rattle.settings.specs.Ranges.{Reach}
 use Rattle.pattern.specs.declared.squares.Eight.{Eight}
 use Rattle.pattern.specs.declared.squares.Eight.TheVariants.{One, Two}
 use Rattle.pattern.specs.Offsets.{still, times, Within}

@@ -7,7 +7,7 @@ use Rattle.std.proofs.lemmas.Int.{ints}
 use Rattle.std.proofs.lemmas.Bool.{cases_lt}
 use Rattle.std.proofs.Math.Dec.{lit≤}
 use Rattle.rate.specs.declared.vectors.Vector.{Vector}
-use Rattle.cost.specs.Ranges.{Reach}
+use Rattle.settings.specs.Ranges.{Reach}
 use Rattle.pattern.specs.Offsets.{at, still, times, Within}
 use Rattle.pattern.specs.declared.squares.Eight.{Eight}
 use Rattle.pattern.specs.declared.squares.Eight.TheVariants.{One, Two}

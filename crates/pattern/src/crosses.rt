@@ -1,15 +1,15 @@
 //! The cross of a search range.
 ghost use Rattle.std.specs.Prelude.{◌≡◌, ◌+◌, ◌/◌, ◌%◌, ◌<◌, pos, slice_index_or};
 ghost use Rattle.picture.specs.Faults.{Answers};
-ghost use Rattle.cost.specs.Ranges.{range_fault};
+ghost use Rattle.settings.specs.Ranges.{range_fault};
 ghost use Rattle.pattern.specs.Patterns.{cross, oddly};
 ghost use Rattle.pattern.specs.Arms.{cross_few, cross_short};
 
 use crate::offsets::STILL;
 use crate::patterns::Pattern;
-use cost::SearchRange;
 use picture::Fault;
 use rate::Vector;
+use settings::SearchRange;
 
 /// Odd steps to both sides of a level line, then of an upright one half as long.
 #[derive(Clone, Copy)]

@@ -1,7 +1,7 @@
 //! The rings of a search range.
 ghost use Rattle.std.specs.Prelude.{◌≡◌, pos, refl};
 ghost use Rattle.picture.specs.Faults.{Answers};
-ghost use Rattle.cost.specs.Ranges.{range_fault};
+ghost use Rattle.settings.specs.Ranges.{range_fault};
 ghost use Rattle.pattern.specs.Patterns.{rings, sixteen};
 ghost use Rattle.std.proofs.Math.Dec.{lit≤};
 ghost use Rattle.pattern.specs.Arms.{rings_few, rings_short};
@@ -9,9 +9,9 @@ ghost use Rattle.pattern.specs.Arms.{rings_few, rings_short};
 use crate::offsets::{STILL, stretched};
 use crate::patterns::Pattern;
 use crate::tables::Listed;
-use cost::SearchRange;
 use picture::Fault;
 use rate::Vector;
+use settings::SearchRange;
 
 /// Sixteen points about (0, 0), and their multiples.
 #[derive(Clone, Copy)]

@@ -1,17 +1,21 @@
--- What `price` prints of a picture.
-use Rattle.std.specs.Prelude.{ℕ, [], ◌∷◌, Option}
-use Rattle.std.specs.Option.{option_map}
-use Rattle.picture.specs.Planes.{Grid}
-use Rattle.cost.specs.declared.setups.Setup.{Setup}
-use Rattle.candidate.specs.declared.prices.Price.{Price}
-use Rattle.candidate.specs.Centres.{centre_price}
+-- What `price` prints of a candidate.
+use Rattle.std.specs.Prelude.{cond, [], ◌∷◌, Some, None, Option}
+use Rattle.reference.specs.Lists.{ListMeaning}
+use Rattle.measure.specs.Sums.{sad, ssd}
+use Rattle.measure.specs.Transforms.{satd}
+use Rattle.settings.specs.declared.setups.Setup.{Setup}
+use Rattle.cost.specs.declared.candidates.Candidate.{Candidate}
+use Rattle.cost.specs.Rating.{is_priced, rate_part_of}
+use Rattle.cost.specs.Prices.{cost_of}
+use Rattle.cost.specs.Strips.{parts_of}
 use Rattle.opening.specs.declared.lines.Line.{Line}
 
--- the line of a price in picture r
-abbrev pub line_of : ℕ → Price → Line 1
-line_of r p =
-    record { candidate = record { picture = r; vector = p.vector }; rate_part = p.rate_part; costs = p.cost ∷ [] }
-
--- that of the centre of the picture's window, where the picture has a predicted vector
-abbrev pub centre_line : Setup → Grid → ℕ → Option (Line 1)
-centre_line s g r = option_map (line_of r) (centre_price s g r)
+-- the line of a candidate that has a price: its rate part, and the cost J under each measure
+abbrev pub line_of : Setup → ListMeaning → Candidate → Option (Line 3)
+line_of s m c =
+    cond (is_priced s c)
+    (Some (record {
+      candidate = c;
+      rate_part = rate_part_of s c;
+      costs = cost_of (parts_of s m sad c) ∷ cost_of (parts_of s m ssd c) ∷ cost_of (parts_of s m satd c) ∷ [];
+    })) None

@@ -1,33 +1,47 @@
-//! The line of a window's centre.
+//! The lines of a job's vectors.
 ghost use Rattle.std.specs.Prelude.{◌≡◌};
-ghost use Rattle.picture.specs.Pictures.{whole_of};
-ghost use Rattle.price.specs.Lines.{centre_line};
+ghost use Rattle.reference.specs.Computed.{computed};
+ghost use Rattle.cost.specs.Strips.{price_of};
+ghost use Rattle.price.specs.Lines.{line_of};
 
-use candidate::{Candidate, price_centre};
-use cost::Setup;
+use cost::{Candidate, Price, Pricing};
+use measure::{Measure, Sad, Satd, Ssd};
 use opening::Line;
-use picture::ReferencePictures;
+use reference::ComputedList;
+use settings::Setup;
 
-/// What the centres of a job's windows are priced with.
+/// What vectors are priced with, under every measure.
 #[derive(Clone, Copy)]
-pub(crate) struct Centres<'a> {
+pub(crate) struct Prices<'a> {
     pub setup: &'a Setup,
-    pub pictures: ReferencePictures<'a>,
+    pub list: &'a ComputedList<'a>,
 }
 
-impl Centres<'_> {
-    /// The line of the centre of a picture's window; nothing for a picture that has no predicted vector.
-    pub(crate) fn line(&self, picture: usize) -> Option<Line<1>>
-        ensures { result ≡ centre_line self.now.setup.now (whole_of self.now.pictures picture) picture }
+impl Prices<'_> {
+    /// The price of a candidate by a measure; nothing where it has none.
+    fn price<M: Measure>(&self, measure: &M, candidate: Candidate) -> Option<Price>
+        ensures { result ≡ price_of self.now.setup.now (computed self.now.list.now) (M.cost measure.now) candidate }
     {
-        let price = price_centre(self.setup, &self.pictures, picture)?;
+        let Prices { setup, list } = *self;
+        let pricing = Pricing {
+            setup,
+            list,
+            measure,
+        };
+        pricing.price(candidate)
+    }
+
+    /// The line of a candidate, with its cost under each measure; nothing where it has no price.
+    pub(crate) fn line(&self, candidate: Candidate) -> Option<Line<3>>
+        ensures { result ≡ line_of self.now.setup.now (computed self.now.list.now) candidate }
+    {
+        let sad = self.price(&Sad, candidate)?;
+        let ssd = self.price(&Ssd, candidate)?;
+        let satd = self.price(&Satd, candidate)?;
         Some(Line {
-            candidate: Candidate {
-                picture,
-                vector: price.vector,
-            },
-            rate_part: price.rate_part,
-            costs: [price.cost],
+            candidate,
+            rate_part: sad.rate_part,
+            costs: [sad.cost, ssd.cost, satd.cost],
         })
     }
 }

@@ -1,8 +1,8 @@
 //! Worked examples, and refusals at their boundaries.
-use cost::centre;
 use measure::sad;
 use picture::{Fault, Layer, vet_count, vet_list, vet_picture, vet_size};
 use rate::{Qp, Vector, code_length, vector_rate};
+use settings::centre;
 use std::test::Fail;
 
 /// The numbers printed for a refusal, and zeros for what is accepted.

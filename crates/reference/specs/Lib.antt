@@ -8,4 +8,3 @@ pub mod Patches
 pub mod Rows
 pub mod Computed
 pub mod Vetting
-pub mod Marked

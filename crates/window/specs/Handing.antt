@@ -1,7 +1,7 @@
 -- The second stage that is made from the first.
 use Rattle.std.specs.Prelude.{◌≡◌, ℕ, Bool, ◌&&◌}
 use Rattle.rate.specs.declared.vectors.Vector.{Vector}
-use Rattle.cost.specs.declared.setups.Setup.{Setup}
+use Rattle.settings.specs.declared.setups.Setup.{Setup}
 use Rattle.window.specs.declared.quarters.Quarter.{Quarter}
 use Rattle.window.specs.Windows.{inside}
 use Rattle.window.specs.Stages.{quarter, handed, whole_of}

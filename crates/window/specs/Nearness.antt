@@ -5,12 +5,12 @@ use Rattle.std.proofs.lemmas.Int.{ints}
 use Rattle.std.proofs.lemmas.Bool.{and_parts, leb-true}
 use Rattle.std.proofs.lemmas.Bool.Decides.{nat_tests}
 use Rattle.rate.specs.declared.vectors.Vector.{Vector}
-use Rattle.cost.specs.declared.predicted.Predicted.{Predicted}
-use Rattle.cost.specs.declared.setups.Setup.{Setup}
-use Rattle.cost.specs.Centres.{centre_of}
-use Rattle.cost.proofs.Quarters.{floor_is}
-use Rattle.candidate.specs.declared.candidates.Candidate.{Candidate}
-use Rattle.candidate.specs.Rating.{predicted_in, across, down, is_priced}
+use Rattle.settings.specs.declared.predicted.Predicted.{Predicted}
+use Rattle.settings.specs.declared.setups.Setup.{Setup}
+use Rattle.settings.specs.Centres.{centre_of}
+use Rattle.settings.proofs.Quarters.{floor_is}
+use Rattle.cost.specs.declared.candidates.Candidate.{Candidate}
+use Rattle.cost.specs.Rating.{predicted_in, across, down, is_priced}
 use Rattle.pattern.specs.Offsets.{Within}
 use Rattle.window.specs.Windows.{Window, Apart, inside, inside_across, inside_down, in_quarters, quartered}
 use Rattle.window.specs.Stages.{predicted_at, whole_of, quarter}

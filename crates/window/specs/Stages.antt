@@ -1,10 +1,10 @@
 -- The windows of both stages.
 use Rattle.std.specs.Prelude.{ℕ, Some, None, Option, ◌==◌, nat_lt}
 use Rattle.rate.specs.declared.vectors.Vector.{Vector}
-use Rattle.cost.specs.declared.predicted.Predicted.{Predicted}
-use Rattle.cost.specs.declared.setups.Setup.{Setup}
-use Rattle.cost.specs.Centres.{centre_in}
-use Rattle.cost.specs.Predicted.{vector_at}
+use Rattle.settings.specs.declared.predicted.Predicted.{Predicted}
+use Rattle.settings.specs.declared.setups.Setup.{Setup}
+use Rattle.settings.specs.Centres.{centre_in}
+use Rattle.settings.specs.Predicted.{vector_at}
 use Rattle.pattern.specs.Offsets.{still}
 use Rattle.window.specs.Windows.{Window, in_quarters}
 

@@ -1,7 +1,7 @@
 -- Windows: where a stage may look.
 use Rattle.std.specs.Prelude.{ℕ, ◌≤◌, Bool, ◌&&◌, ℤ, ◌-ℤ◌, nat_le, unsigned_abs}
 use Rattle.rate.specs.declared.vectors.Vector.{Vector}
-use Rattle.candidate.specs.declared.candidates.Candidate.{Candidate}
+use Rattle.cost.specs.declared.candidates.Candidate.{Candidate}
 use Rattle.pattern.specs.Offsets.{times}
 
 -- the pictures that may be named; the centre of the window of a picture, and how far a component may be from it; how many

@@ -1,16 +1,16 @@
 //! The second stage, in quarter samples.
 ghost use Rattle.std.specs.Prelude.{◌<◌};
 ghost use Rattle.std.proofs.Common.{rules};
-ghost use Rattle.candidate.specs.Rating.{predicted_in};
+ghost use Rattle.cost.specs.Rating.{predicted_in};
 ghost use Rattle.pattern.specs.Offsets.{Within};
 ghost use Rattle.window.specs.Stages.{quarter};
 ghost use Rattle.window.specs.Windows.{Apart};
 ghost use Rattle.window.specs.Nearness.{quarter_priced};
 
 use crate::stages::Stage;
-use candidate::Candidate;
-use cost::Setup;
+use cost::Candidate;
 use rate::Vector;
+use settings::Setup;
 
 /// Only the picture that was handed over may be named; its window reaches 3 from the handed vector, whatever is held later.
 #[derive(Clone, Copy)]

@@ -1,13 +1,13 @@
 //! The interface of a stage: where a search may look, and in which unit.
 ghost use Rattle.std.specs.Prelude.{◌≡◌, ℕ, ◌≤◌, true};
-ghost use Rattle.cost.specs.declared.setups.Setup.{Setup as Settings};
-ghost use Rattle.candidate.specs.declared.candidates.Candidate.{Candidate};
-ghost use Rattle.candidate.specs.Rating.{is_priced};
+ghost use Rattle.settings.specs.declared.setups.Setup.{Setup as Settings};
+ghost use Rattle.cost.specs.declared.candidates.Candidate.{Candidate};
+ghost use Rattle.cost.specs.Rating.{is_priced};
 ghost use Rattle.pattern.specs.Offsets.{Within};
 ghost use Rattle.window.specs.Windows.{Window, in_quarters, inside, quartered};
 
-use cost::Setup;
 use rate::Vector;
+use settings::Setup;
 
 /// A stage of a search. Nothing that is asked alters it.
 pub trait Stage {

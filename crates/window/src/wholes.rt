@@ -10,9 +10,9 @@ ghost use Rattle.std.proofs.Common.{rules};
 use crate::quarters::Quarter;
 use crate::stages::Stage;
 use crate::windows::contains;
-use candidate::Candidate;
-use cost::{Setup, centre_of};
+use cost::Candidate;
 use rate::Vector;
+use settings::{Setup, centre_of};
 
 /// Every picture of the list may be named; its window reaches as far as the search range from its centre.
 #[derive(Clone, Copy)]

@@ -3,7 +3,7 @@ ghost use Rattle.std.specs.Prelude.{◌≡◌};
 ghost use Rattle.window.specs.Windows.{inside, inside_across, inside_down, is_near};
 
 use crate::stages::Stage;
-use candidate::Candidate;
+use cost::Candidate;
 
 /// Whether a component is at most so far from the centre's: any two 16-bit numbers, whose difference may want 17 bits.
 fn is_near(reach: u8, centre: i16, z: i16) -> bool

@@ -1,7 +1,7 @@
 -- The vector lies in the window, so four times it is near.
 use Rattle.std.proofs.Common.{sym, subst, arith}
 use Rattle.std.proofs.lemmas.Bool.{ltb-true}
-use Rattle.candidate.specs.Rating.{predicted_in}
+use Rattle.cost.specs.Rating.{predicted_in}
 use Rattle.pattern.specs.Offsets.{Within}
 use Rattle.window.specs.Windows.{Apart}
 use Rattle.window.specs.Nearness.{whole_near}

@@ -1,7 +1,0 @@
-//! The worked examples, as one statement.
-ghost use Rattle.candidate.specs.Marked.{Marked};
-
-/// The definitions that the engine is proved to follow give every figure of the table of worked examples.
-pub fn examples_hold()
-    ensures { Marked }
-{}

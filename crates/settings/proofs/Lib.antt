@@ -1,0 +1,3 @@
+mod Components
+mod Copies
+pub mod Quarters

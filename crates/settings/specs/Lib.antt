@@ -1,0 +1,4 @@
+pub mod Ranges
+pub mod Centres
+pub mod Predicted
+pub mod Setups
