@@ -8,3 +8,4 @@ pub mod Patches
 pub mod Rows
 pub mod Computed
 pub mod Vetting
+pub mod Marked
