@@ -61,7 +61,8 @@ impl<L: ReferenceList, M: Measure> Pricing<'_, L, M> {
 
     /// Tries a candidate, in quarter samples, under a bound; nothing where it has no price.
     pub fn try_under(&self, candidate: Candidate, bound: u32) -> Option<Trial>
-        ensures { MatchOption result (is_priced self.now.setup.now candidate ≡ false) (λ t. (is_priced self.now.setup.now candidate ≡ true) × Tried (parts_of self.now.setup.now (L.meaning self.now.list.now) (M.cost self.now.measure.now) candidate) bound t) }
+        ensures tried { MatchOption result (is_priced self.now.setup.now candidate ≡ false) (λ t. (is_priced self.now.setup.now candidate ≡ true) × Tried (parts_of self.now.setup.now (L.meaning self.now.list.now) (M.cost self.now.measure.now) candidate) bound t) }
+        ensures most { IfSome result (λ t. total_of t.cost ≤ 16650321) }
     {
         let rate_part = rate_part(self.setup, candidate)?;
         Some(self.judge(candidate, rate_part, bound))

@@ -11,5 +11,6 @@ mod windows;
 pub use quarters::Quarter;
 pub use rounds::Round;
 pub use stages::Stage;
+pub use stepping::full_rounds_cover;
 pub use wholes::Whole;
 pub use windows::{contains, contains_across, contains_down};

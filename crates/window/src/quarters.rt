@@ -27,6 +27,8 @@ impl Stage for Quarter {
 
     ghost setup = { λ s. s.setup };
 
+    ghost fine = { Prim.search rules };
+
     ghost narrow = { Prim.search rules };
 
     ghost central = { λ s r. s.near };

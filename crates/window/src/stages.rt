@@ -38,6 +38,9 @@ pub trait Stage {
         requires { Within 4416 vector }
         ensures { result ≡ in_quarters (window self.now) vector };
 
+    /// A vector's unit is a whole sample at most.
+    ghost fine: { (s : Self) → (window s).scale ≤ 4 };
+
     /// No window reaches further than 64.
     ghost narrow: { (s : Self) → (window s).reach ≤ 64 };
 

@@ -5,6 +5,7 @@ ghost use Rattle.window.specs.Lefts.{left};
 ghost use Rattle.pattern.specs.Offsets.{Within};
 ghost use Rattle.window.specs.Rests.{rest_from, spot_at};
 ghost use Rattle.window.specs.Rounds.{Covers, round_of};
+ghost use Rattle.window.specs.Windows.{Window};
 
 use crate::rounds::{Round, Spot};
 use crate::stages::Stage;
@@ -84,6 +85,11 @@ impl Round {
         }
     }
 }
+
+/// The order of a full round goes through any window: it has every vector of it, no other, each once.
+pub fn full_rounds_cover()
+    ensures { (w : Window) (r : ℕ) → Covers w r (round_of w r) }
+{}
 
 /// The next vector, as long as one is left.
 impl Iterator for Round {

@@ -53,6 +53,8 @@ impl Stage for Whole {
 
     ghost setup = { λ s. s.setup };
 
+    ghost fine = { Prim.search rules };
+
     ghost narrow = { Prim.search rules };
 
     ghost central = { λ s r. whole_central s.setup r };

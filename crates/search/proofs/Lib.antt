@@ -1,0 +1,14 @@
+pub mod Agree
+pub mod Earliest
+pub mod Opened
+pub mod Passes
+pub mod Falls
+pub mod Resting
+pub mod Circuits
+pub mod Handed
+pub mod Answered
+pub mod Counts
+pub mod Books
+pub mod Holding
+pub mod Sequences
+pub mod Replays

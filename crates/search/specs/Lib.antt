@@ -1,0 +1,10 @@
+pub mod Terms
+pub mod Book
+pub mod Tallies
+pub mod Calls
+pub mod Agreed
+pub mod Openings
+pub mod Walks
+pub mod Handovers
+pub mod Runs
+pub mod Replays
