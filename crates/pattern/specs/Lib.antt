@@ -3,3 +3,4 @@ pub mod Patterns
 pub mod Arms
 pub mod Joins
 pub mod Shorts
+pub mod Supplied

@@ -7,6 +7,7 @@ mod offsets;
 mod patterns;
 mod rings;
 mod squares;
+mod supplied;
 mod tables;
 
 pub use crosses::Cross;
@@ -14,4 +15,5 @@ pub use diamonds::{Diamond, Hexagon};
 pub use patterns::Pattern;
 pub use rings::Rings;
 pub use squares::{Eight, Square};
+pub use supplied::{Name, Supplied};
 pub use tables::Listed;

@@ -12,3 +12,5 @@ pub mod Books
 pub mod Holding
 pub mod Sequences
 pub mod Replays
+pub mod Refusals
+pub mod Refined

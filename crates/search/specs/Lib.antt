@@ -8,3 +8,5 @@ pub mod Walks
 pub mod Handovers
 pub mod Runs
 pub mod Replays
+pub mod Recipes
+pub mod Printed

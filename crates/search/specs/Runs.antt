@@ -9,6 +9,7 @@ use Rattle.window.specs.Windows.{Window}
 use Rattle.search.specs.declared.calls.Answer.{Answer}
 use Rattle.search.specs.declared.calls.Answer.TheVariants.{Better, Trials, Sweeps}
 use Rattle.search.specs.declared.calls.Call.{Call}
+use Rattle.search.specs.declared.calls.Pairs.{Pairs}
 use Rattle.search.specs.declared.calls.Call.TheVariants as calls
 use Rattle.search.specs.declared.tallies.Tally.{Tally}
 use Rattle.search.specs.Terms.{Terms, price}
@@ -27,11 +28,11 @@ pub data Ask : Type 0 where
   full : ℤ → Ask
 
 -- what a call of the program asks, where patterns mean these offsets
-abbrev pub ask_of : {P : Type 0} → (P → List Vector) → Call P → Ask
+abbrev pub ask_of : {P : Type 0} → (P → List Vector) → Call Pairs P → Ask
 ask_of offsets (calls.Try r v) = try r v
-ask_of offsets (calls.Offer r xs ys) = offer r xs.now ys.now
-ask_of offsets (calls.Sweep p) = sweep (offsets p.now)
-ask_of offsets (calls.Walk p) = walk (offsets p.now)
+ask_of offsets (calls.Offer r v) = offer r v.xs.now v.ys.now
+ask_of offsets (calls.Sweep p) = sweep (offsets p)
+ask_of offsets (calls.Walk p) = walk (offsets p)
 ask_of offsets (calls.FullRound r) = full r
 
 -- the fault of a call, in windows w, where so many trials were made before it

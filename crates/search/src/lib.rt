@@ -4,9 +4,11 @@
 mod calls;
 mod closing;
 mod entering;
+mod following;
 mod handing;
 mod offering;
 mod opening;
+mod recipes;
 mod replaying;
 mod reports;
 mod rounding;
@@ -19,8 +21,9 @@ mod tests;
 mod trying;
 mod walking;
 
-pub use calls::{Answer, Call};
+pub use calls::{Answer, Call, Pairs};
 pub use opening::Opening;
+pub use recipes::{exhaustive, fast};
 pub use replaying::{Outcome, ReplayError, SecondStage, replay};
 pub use reports::Report;
 pub use searches::Search;

@@ -7,7 +7,7 @@ ghost use Rattle.search.specs.Openings.{opening_fault};
 ghost use Rattle.search.specs.Runs.{ask_of};
 ghost use Rattle.search.specs.Replays.{Finished, Replayed, Told, second_of};
 
-use crate::calls::{Answer, Call};
+use crate::calls::{Answer, Call, Pairs};
 use crate::opening::Opening;
 use crate::reports::Report;
 use crate::searches::Search;
@@ -22,7 +22,7 @@ use window::{Whole, full_rounds_cover};
 #[derive(Drop)]
 pub struct SecondStage<'a, N, P> {
     pub measure: N,
-    pub calls: &'a [Call<'a, P>],
+    pub calls: &'a [Call<Pairs<'a>, P>],
 }
 
 /// What a run told: what each call answered, in order, and the report.
@@ -79,7 +79,7 @@ where
 pub fn replay<L, M, N, P>(
     heap: Global,
     opening: Opening<'_, L, M>,
-    calls: &[Call<'_, P>],
+    calls: &[Call<Pairs<'_>, P>],
     second: Option<SecondStage<'_, N, P>>,
 ) -> Result<Outcome, ReplayError>
 where
@@ -91,7 +91,11 @@ where
 {
     full_rounds_cover();
     let more = second.as_ref().map_or(0, |second| second.calls.len());
-    let mut answers = Vec::with_capacity(heap, calls.len() + more)?;
+    let room = calls
+        .len()
+        .checked_add(more)
+        .ok_or(ReplayError::OutOfMemory)?;
+    let mut answers = Vec::with_capacity(heap, room)?;
     let mut search = Search::open(opening)?;
     search.run(calls, &mut answers);
     let report = match second {

@@ -4,7 +4,7 @@ ghost use Rattle.std.specs.Vec.{vec_capacity, vec_len};
 ghost use Rattle.search.specs.Terms.{terms_of};
 ghost use Rattle.search.specs.Runs.{Ran, ask_of};
 
-use crate::calls::{Answer, Call};
+use crate::calls::{Answer, Call, Pairs};
 use crate::searches::Search;
 use measure::Measure;
 use pattern::Pattern;
@@ -16,7 +16,7 @@ impl<L: ReferenceList, M: Measure, S: Stage> Search<L, M, S> {
     /// Makes calls one after the other, and adds what each answers to a list that has room for all.
     pub(crate) fn run<P: Pattern>(
         &mut self,
-        calls: &[Call<'_, P>],
+        calls: &[Call<Pairs<'_>, P>],
         answers: &mut Vec<Result<Answer, Fault>>,
     )
         requires room { vec_len answers.old + length calls.now ≤ vec_capacity answers.old }

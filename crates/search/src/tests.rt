@@ -1,5 +1,5 @@
 //! Runs whose counts were worked out by hand.
-use crate::{Answer, Call, Opening, ReplayError, Report, Search, SecondStage, replay};
+use crate::{Answer, Call, Opening, Pairs, ReplayError, Report, Search, SecondStage, replay};
 use block::BlockRequest;
 use measure::{Sad, Ssd};
 use pattern::{Diamond, Eight, Square};
@@ -130,10 +130,10 @@ fn calls_by_hand(rt: HostRuntime) -> Result<(), Fail> {
 #[test]
 fn a_run_by_hand(rt: HostRuntime) -> Result<(), Fail> {
     let samples = shifted();
-    let calls: [Call<'_, Square>; 3] = [
+    let calls: [Call<Pairs<'_>, Square>; 3] = [
         Call::FullRound(0),
-        Call::Offer(3, &[0], &[0]),
-        Call::Walk(&Square),
+        Call::Offer(3, Pairs { xs: &[0], ys: &[0] }),
+        Call::Walk(Square),
     ];
     let second = SecondStage {
         measure: Ssd,
@@ -157,7 +157,7 @@ fn a_run_by_hand(rt: HostRuntime) -> Result<(), Fail> {
 #[test]
 fn a_run_that_does_not_open(rt: HostRuntime) {
     let samples = shifted();
-    let calls: [Call<'_, Diamond>; 0] = [];
+    let calls: [Call<Pairs<'_>, Diamond>; 0] = [];
     let none: Option<SecondStage<'_, Ssd, Diamond>> = None;
     let mut wide = opening(&samples);
     wide.range = 68;

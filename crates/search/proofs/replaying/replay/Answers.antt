@@ -21,10 +21,10 @@ returns g c =
     let on = same_terms (λ (k : Whole). whole_of k.setup) (λ (k : Whole). k.setup) g.L.ReferenceList.meaning g.M.Measure.cost opened.1.1 opened.1.2 (refl {a = s.stage}) in
     let kept : u ≡ t = same_terms (λ (k : Whole). whole_of k.setup) (λ (k : Whole). k.setup) g.L.ReferenceList.meaning g.M.Measure.cost c.run.ensures.same.0 c.run.ensures.same.1 c.run.ensures.same.2 in
     let asks = map (ask_of g.P.Pattern.offsets) c.args.calls.now in
-    let o : Outcome = record { answers = c.match-second-3.answers; report = c.match-second-3.report } in
+    let o : Outcome = record { answers = c.match-second-4.answers; report = c.match-second-4.report } in
     let none = c.in_ok-answers.ensures.items in (
       opened.0,
-      elim c.match-second-3.branch [
+      elim c.match-second-4.branch [
         | in-None w ↦
             replayed_one c.full_rounds_cover.ensures _ _ _ _ _ _ _ _ asks s.stage.setup t s.tally z.tally c.in_ok-answers.answers.items c.run.new.answers.items o on none opened.1.0 c.run.ensures.ran
             (second_of g.N.Measure.cost g.P.Pattern.offsets c.args.second) (ap (second_of g.N.Measure.cost g.P.Pattern.offsets) w.in-None.is) (ap (λ v. v.items) w.answers-is)

@@ -27,7 +27,7 @@ returns-in_ok-offer-in-Offer-clause-called g c =
     let t : Terms = terms_of (g.S.Stage.window s.stage) (g.S.Stage.setup s.stage) (g.L.ReferenceList.meaning s.list) (g.M.Measure.cost s.measure) in
     let fits : SFits w64 c.in-Offer.picture = search rules in
     let told = simp (to_z-of_z, fits) at c.in_ok-offer-in-Offer.ensures.offered in
-    rw c.in-Offer.is (called_offer t s.tally c.offer.new.self.tally c.in-Offer.picture c.in-Offer.xs.now c.in-Offer.ys.now c.in_ok-offer-in-Offer.field-0 told)
+    rw c.in-Offer.is (called_offer t s.tally c.offer.new.self.tally c.in-Offer.picture c.in-Offer.pairs.xs.now c.in-Offer.pairs.ys.now c.in_ok-offer-in-Offer.field-0 told)
 
 pub returns-in_ok-full_round-in-FullRound-clause-called : goal.returns-in_ok-full_round-in-FullRound-clause-called
 returns-in_ok-full_round-in-FullRound-clause-called g c =
