@@ -252,8 +252,8 @@ def run(program, pieces, words=()):
 
     The words are its arguments.
     """
-    process = subprocess.Popen([program, *words], stdin=subprocess.PIPE, stdout=subprocess.PIPE,
-                               stderr=subprocess.PIPE)
+    process = subprocess.Popen([program, *words], bufsize=0, stdin=subprocess.PIPE,
+                               stdout=subprocess.PIPE, stderr=subprocess.PIPE)
     try:
         for piece in pieces[:-1]:
             process.stdin.write(piece)
