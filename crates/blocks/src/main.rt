@@ -1,6 +1,8 @@
 //! `blocks`: what the exhaustive recipe finds for every 16x16 block of a picture, against one reference picture.
 #![tactic(auto)]
 
+ghost use Rattle.std.specs.Prelude.{Ok, IfOk};
+
 mod pictures;
 
 use anyhow::anyhow;
@@ -53,7 +55,9 @@ fn run(rt: &HostRuntime) -> anyhow::Result<()> {
 }
 
 /// The number that a word writes.
-fn number(word: &str) -> anyhow::Result<i64> {
+fn number(word: &str) -> anyhow::Result<i64>
+    ensures { IfOk result (λ n. ⟦<i64 as FromStr>⟧.from_str_gives word.now (Ok n)) }
+{
     i64::from_str(word).map_err(|_| anyhow!("an argument is not a number; try blocks alone"))
 }
 
