@@ -31,7 +31,7 @@ pub fn replay_corners(
     far: &Corners,
     near: &Corners,
 ) -> Result<Outcome, ReplayError>
-    ensures { Told result (fault_of opening.entry) (WalkedTwice opening.entry (corners far.now.distance) (corners near.now.distance)) }
+    ensures { Told result 2 (fault_of opening.entry) (WalkedTwice opening.entry (corners far.now.distance) (corners near.now.distance)) }
 {
     let first = Call::Walk(*far);
     let then = Call::Walk(*near);

@@ -1,5 +1,5 @@
 -- Whole runs: the opening, calls of the first stage, a handover or none, calls of the second, and the report.
-use Rattle.std.specs.Prelude.{◌≡◌, List, [], ◌++◌, map, ℤ, Some, None, Option, Ok, Err, Result}
+use Rattle.std.specs.Prelude.{◌≡◌, ℕ, ◌+◌, ◌<◌, List, [], ◌++◌, map, length, ℤ, Some, None, Option, Ok, Err, Result}
 use Rattle.picture.specs.declared.faults.Fault.{Fault}
 use Rattle.picture.specs.Planes.{Grid}
 use Rattle.reference.specs.Lists.{ListMeaning}
@@ -58,8 +58,14 @@ pub record Replayed (current : Grid) (m : ListMeaning) (cost : Cost) (q : BlockR
   pub first_stage : Holds 0 0 (opening_book setup m cost) asks
   pub second_stage : HoldsLast setup m (after_all (opening_book setup m cost) asks) second
 
--- a run is refused just where its opening is, by that fault; want of memory for the answers is told before anything is tried
-abbrev pub Told : Result Outcome ReplayError → Option Fault → (Outcome → Type 0) → Type 0
-Told (Ok o) f P = (f ≡ None) × P o
-Told (Err OutOfMemory) f P = Unit {0}
-Told (Err (Refused e)) f P = f ≡ Some e
+-- how many calls a run makes
+abbrev pub calls_in : List Ask → Second → ℕ
+calls_in asks None = length asks
+calls_in asks (Some stage) = length asks + length stage.1
+
+-- a run of n calls is refused just where its opening is, by that fault; want of memory is told before anything is tried, and
+-- only where there are answers to keep
+abbrev pub Told : Result Outcome ReplayError → ℕ → Option Fault → (Outcome → Type 0) → Type 0
+Told (Ok o) n f P = (f ≡ None) × P o
+Told (Err OutOfMemory) n f P = 0 < n
+Told (Err (Refused e)) n f P = f ≡ Some e

@@ -5,7 +5,7 @@ ghost use Rattle.search.specs.declared.replaying.ReplayError.TheVariants.{OutOfM
 ghost use Rattle.std.specs.Vec.{vec_capacity, vec_len};
 ghost use Rattle.search.specs.Openings.{opening_fault};
 ghost use Rattle.search.specs.Runs.{ask_of};
-ghost use Rattle.search.specs.Replays.{Finished, Replayed, Told, second_of};
+ghost use Rattle.search.specs.Replays.{Finished, Replayed, Told, calls_in, second_of};
 
 use crate::calls::{Answer, Call, Pairs};
 use crate::opening::Opening;
@@ -87,7 +87,7 @@ where
     M: Measure + Drop,
     N: Measure + Drop,
     P: Pattern,
-    ensures { Told result (opening_fault opening.entry.current.size (L.meaning opening.entry.list) opening.entry.request opening.entry.qp opening.entry.range opening.entry.xs.now opening.entry.ys.now) (Replayed (grid_of opening.entry.current) (L.meaning opening.entry.list) (M.Measure.cost opening.entry.measure) opening.entry.request opening.entry.qp opening.entry.range opening.entry.xs.now opening.entry.ys.now (map (ask_of P.offsets) calls.now) (second_of N.Measure.cost P.offsets second.entry)) }
+    ensures { Told result (calls_in (map (ask_of P.offsets) calls.now) (second_of N.Measure.cost P.offsets second.entry)) (opening_fault opening.entry.current.size (L.meaning opening.entry.list) opening.entry.request opening.entry.qp opening.entry.range opening.entry.xs.now opening.entry.ys.now) (Replayed (grid_of opening.entry.current) (L.meaning opening.entry.list) (M.Measure.cost opening.entry.measure) opening.entry.request opening.entry.qp opening.entry.range opening.entry.xs.now opening.entry.ys.now (map (ask_of P.offsets) calls.now) (second_of N.Measure.cost P.offsets second.entry)) }
 {
     full_rounds_cover();
     let more = second.as_ref().map_or(0, |second| second.calls.len());

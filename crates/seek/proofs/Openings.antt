@@ -20,9 +20,9 @@ pub full_refused : (b : List ℕ) (j : Job) (f : Fault) (r : Result (Report × R
     MatchResult r (λ p. (x : Job) × (x.bytes.now ≡ b) × Full x (Ok p.0) × Fast x (Ok p.1)) (λ g. Refused b g)
 full_refused b j f r e same h = rw e (inr (j, same, inl h))
 
-pub fast_refused : (b : List ℕ) (j : Job) (f : Fault) (r : Result (Report × Report) Fault) → r ≡ Err f → j.bytes.now ≡ b → Fast j (Err f) →
+pub fast_refused : (b : List ℕ) (j : Job) (f : Fault) (r : Result (Report × Report) Fault) (full : Report) → r ≡ Err f → j.bytes.now ≡ b → Full j (Ok full) → Fast j (Err f) →
     MatchResult r (λ p. (x : Job) × (x.bytes.now ≡ b) × Full x (Ok p.0) × Fast x (Ok p.1)) (λ g. Refused b g)
-fast_refused b j f r e same h = rw e (inr (j, same, inr h))
+fast_refused b j f r full e same g h = rw e (inr (j, same, inr ((full, g), h)))
 
 pub fast_of : (j : Job) (o : Opening ComputedList Sad) (xs ys : List ℤ) (r : Result Report Fault) → IsOpening j o → xs ≡ proposed_x j.bytes.now → ys ≡ proposed_y j.bytes.now →
     Begun (opening_fault o.current.size (computed o.list) o.request o.qp o.range o.xs.now o.ys.now) r

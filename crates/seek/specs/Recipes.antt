@@ -1,5 +1,5 @@
 -- What both recipes answer over a job.
-use Rattle.std.specs.Prelude.{◌≡◌, ◌⊎◌, List, ℕ, Some, Err, Result}
+use Rattle.std.specs.Prelude.{◌≡◌, ◌⊎◌, List, ℕ, Some, Ok, Err, Result}
 use Rattle.picture.specs.declared.faults.Fault.{Fault}
 use Rattle.picture.specs.Planes.{grid_of}
 use Rattle.reference.specs.declared.computed.ComputedList.{ComputedList}
@@ -41,6 +41,6 @@ Fast j r =
     Begun (opening_fault o.current.size (computed o.list) o.request o.qp o.range o.xs.now o.ys.now) r
     (Follows (grid_of o.current) (computed o.list) sad satd o.request o.qp o.range o.xs.now o.ys.now (fast_asks (proposed_x j.bytes.now) (proposed_y j.bytes.now)))
 
--- a fault of the bytes, or the first refusal of a recipe over the job that they are
+-- a fault of the bytes, or a recipe's refusal over the job that they are: the fast one's only where the exhaustive one reports
 abbrev pub Refused : List ℕ → Fault → Type 0
-Refused b f = (job_fault b ≡ Some f) ⊎ ((j : Job) × (j.bytes.now ≡ b) × (Full j (Err f) ⊎ Fast j (Err f)))
+Refused b f = (job_fault b ≡ Some f) ⊎ ((j : Job) × (j.bytes.now ≡ b) × (Full j (Err f) ⊎ (((r : Report) × Full j (Ok r)) × Fast j (Err f))))

@@ -1,8 +1,8 @@
 //! Both recipes over a job.
 ghost use Rattle.std.specs.Prelude.{◌≡◌, Ok, MatchResult};
-ghost use Rattle.job.specs.Format.{current_in, predicted_x, predicted_y, proposed_x, proposed_y, reference_in};
+ghost use Rattle.job.specs.Format.{proposed_x, proposed_y};
 ghost use Rattle.job.specs.declared.jobs.Job.{Job};
-ghost use Rattle.seek.specs.Recipes.{Fast, Full, Refused};
+ghost use Rattle.seek.specs.Recipes.{Fast, Full, IsOpening, Refused};
 
 use job::Job;
 use measure::{Sad, Satd};
@@ -12,10 +12,7 @@ use search::{Opening, Pairs, Report, exhaustive, fast};
 
 /// What a search of a job is opened with.
 fn opening<'a>(job: &'a Job<'a>) -> Opening<'a, ComputedList<'a>, Sad>
-    ensures current { (result.current.size ≡ job.now.header.list.picture) × (result.current.samples.now ≡ current_in job.now.bytes.now) }
-    ensures list { (result.list.pictures.size ≡ job.now.header.list) × (result.list.pictures.samples.now ≡ reference_in job.now.bytes.now) }
-    ensures settings { (result.request ≡ job.now.header.request) × (result.qp ≡ job.now.header.qp) × (result.range ≡ job.now.header.range) }
-    ensures predicted { (result.xs.now ≡ predicted_x job.now.bytes.now) × (result.ys.now ≡ predicted_y job.now.bytes.now) }
+    ensures { IsOpening job.now result }
 {
     let predicted = job.predicted();
     Opening {
