@@ -307,17 +307,24 @@ def bad_arguments():
             ["0", "70000", "0"], ["0", "9999999999999999999999", "0"])
 
 
-def agrees(program, label, job, pieces, named=None):
-    """Compares one run with the model; prints the difference."""
-    output, wanted = model.price(job, named)
-    words = [str(word) for word in named or ()]
-    found, status, told = run(program, pieces, words)
-    if (found, status, told.count(b"\n")) == (output.encode(), wanted, wanted):
+def same(label, job, expected, found):
+    """Whether a run gave what was expected; prints the difference.
+
+    Each is standard output, the exit status, and standard error or the number of its lines.
+    """
+    if found == expected:
         return True
     print(f"{label}, a job of {len(job)} bytes")
-    print(f"  expected {output!r}, exit status {wanted}, as many lines on standard error")
-    print(f"  found    {found!r}, exit status {status}, standard error {told!r}")
+    for name, (output, status, told) in (("expected", expected), ("found", found)):
+        print(f"  {name:8} {output!r}, exit status {status}, standard error {told!r}")
     return False
+
+
+def agrees(program, label, job, pieces, named=None):
+    """Compares one run with the model."""
+    output, wanted = model.price(job, named)
+    found, status, told = run(program, pieces, [str(word) for word in named or ()])
+    return same(label, job, (output.encode(), wanted, wanted), (found, status, told.count(b"\n")))
 
 
 def refuses(program, words):

@@ -15,7 +15,8 @@ import model  # noqa: E402
 import price_jobs  # noqa: E402
 from pattern_tables import DIAMOND, HEXAGON  # noqa: E402
 from price_jobs import (  # noqa: E402
-    BASE, GREATEST, LEAST, ONE_BLOCK, flat, make, random_place, run)
+    BASE, GREATEST, LEAST, ONE_BLOCK, flat, make, random_place, run,
+    same)
 
 
 # Pictures: what makes one of a given width and height.
@@ -409,15 +410,8 @@ BAD_ARGUMENTS = (["0"], ["0", "0", "0"], ["help"], ["--all"], [""], ["-"], ["0",
 
 
 def agrees(program, label, job, pieces):
-    """Compares one run with the book; prints the difference."""
-    expected = book.seek(job)
-    found, status, told = run(program, pieces)
-    if (found, status, told) == (expected.encode(), 0, b""):
-        return True
-    print(f"{label}, a job of {len(job)} bytes")
-    print(f"  expected {expected!r}, exit status 0, nothing on standard error")
-    print(f"  found    {found!r}, exit status {status}, standard error {told!r}")
-    return False
+    """Compares one run with the book."""
+    return same(label, job, (book.seek(job).encode(), 0, b""), run(program, pieces))
 
 
 def helps(program, words):

@@ -10,6 +10,11 @@ use Rattle.reference.specs.Lists.{ListMeaning}
 use Rattle.settings.specs.declared.setups.Setup.{Setup}
 use Rattle.cost.specs.Strips.{Cost}
 use Rattle.window.specs.Windows.{Window}
+use Rattle.window.specs.Stages.{whole_of, quarter}
+use Rattle.window.specs.declared.wholes.Whole.{Whole}
+use Rattle.window.specs.declared.quarters.Quarter.{Quarter}
+use Rattle.search.specs.Openings.{whole_terms}
+use Rattle.search.specs.Handovers.{terms_in}
 use Rattle.search.specs.Calls.{pair_in, pairs, shifted}
 use Rattle.search.specs.Terms.{Terms, terms_of, is_inside}
 use Rattle.search.specs.Tallies.{tallied, tallies}
@@ -58,6 +63,13 @@ few_kept test cs = subst (λ (ds : List Candidate). length (filter test ds) ≤ 
 pub same_terms : {X Y Z : Type 0} (w : Z → Window) (set : Z → Setup) (m : X → ListMeaning) (cost : Y → Cost) {l k : X} {n j : Y} {s r : Z} →
     l ≡ k → n ≡ j → s ≡ r → terms_of (w s) (set s) (m l) (cost n) ≡ terms_of (w r) (set r) (m k) (cost j)
 same_terms w set m cost e f h = rw (e, f, h)
+
+-- and of one in each stage
+pub same_whole : {X Y : Type 0} (m : X → ListMeaning) (cost : Y → Cost) {l k : X} {n j : Y} {s r : Whole} → l ≡ k → n ≡ j → s ≡ r → whole_terms s.setup (m l) (cost n) ≡ whole_terms r.setup (m k) (cost j)
+same_whole m cost e f h = same_terms (λ (s : Whole). whole_of s.setup) (λ (s : Whole). s.setup) m cost e f h
+
+pub same_quarter : {X Y : Type 0} (m : X → ListMeaning) (cost : Y → Cost) {l k : X} {n j : Y} {s r : Quarter} → l ≡ k → n ≡ j → s ≡ r → terms_in s (m l) (cost n) ≡ terms_in r (m k) (cost j)
+same_quarter m cost e f h = same_terms (λ (q : Quarter). quarter q.handed.picture q.handed.vector) (λ (q : Quarter). q.setup) m cost e f h
 
 -- one turn of a loop that tries those of a list that lie in the window
 pub pass_more : (t u : Terms) (y z x : Tally) (cs : List Candidate) (k : ℕ) (c : Candidate) → u ≡ t → k < length cs → get_or cs k c ≡ c →

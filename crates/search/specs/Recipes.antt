@@ -1,5 +1,5 @@
 -- Recipes: lists of calls that end at the first refusal.
-use Rattle.std.specs.Prelude.{◌≡◌, ℕ, zero, suc, ◌+◌, ◌-◌, ◌<◌, ◌≤◌, true, List, [], ◌∷◌, ◌++◌, map, ℤ, pos, Some, None, Option, Ok, Err, Result}
+use Rattle.std.specs.Prelude.{◌≡◌, ℕ, ◌+◌, ◌-◌, ◌<◌, ◌≤◌, true, List, [], ◌∷◌, ◌++◌, map, ℤ, pos, Some, None, Option, Ok, Err, Result, slice_index_or}
 use Rattle.std.specs.List.{range_with_len}
 use Rattle.picture.specs.declared.faults.Fault.{Fault}
 use Rattle.picture.specs.Planes.{Grid}
@@ -50,11 +50,7 @@ pattern_asks w = sweep (cross w) ∷ sweep square ∷ sweep (rings w) ∷ walk h
 
 -- one of them, by its place
 abbrev pub pattern_ask : ℕ → ℕ → Ask
-pattern_ask w zero = sweep (cross w)
-pattern_ask w (suc zero) = sweep square
-pattern_ask w (suc (suc zero)) = sweep (rings w)
-pattern_ask w (suc (suc (suc zero))) = walk hexagon
-pattern_ask w (suc (suc (suc (suc k)))) = walk diamond
+pattern_ask w k = slice_index_or (pattern_asks w) k (walk diamond)
 
 abbrev pub fast_asks : List ℤ → List ℤ → Setup → List Ask
 fast_asks xs ys s =
@@ -66,8 +62,7 @@ abbrev pub eight_asks : List Ask
 eight_asks = sweep (eight 2) ∷ sweep (eight 1) ∷ []
 
 abbrev pub eight_ask : ℕ → Ask
-eight_ask zero = sweep (eight 2)
-eight_ask (suc k) = sweep (eight 1)
+eight_ask k = slice_index_or eight_asks k (sweep (eight 1))
 
 -- what a recipe answers: the first refusal, else the report
 abbrev pub unless_refused : {X : Type 0} → Option Fault → X → Result X Fault

@@ -1,12 +1,12 @@
 use Rattle.std.proofs.Common.{◌≡◌, map, refl, sym, ap, ◌∙◌, subst}
-use Rattle.window.specs.Stages.{whole_of}
 use Rattle.window.specs.declared.wholes.Whole.{Whole}
 use Rattle.search.specs.declared.replaying.Outcome.{Outcome}
-use Rattle.search.specs.Terms.{Terms, terms_of}
+use Rattle.search.specs.Terms.{Terms}
+use Rattle.search.specs.Openings.{whole_terms}
 use Rattle.search.specs.Agreed.{Reports}
 use Rattle.search.specs.Runs.{ask_of}
 use Rattle.search.specs.Replays.{second_of}
-use Rattle.search.proofs.Passes.{same_terms}
+use Rattle.search.proofs.Passes.{same_whole}
 use Rattle.search.proofs.Replays.{finished_as, replayed_one, replayed_two}
 use Rattle.search.proofs.replaying.replay.Goals as goal
 use Rattle.search.proofs.replaying.replay.Goals.{in-None, in-Some}
@@ -16,10 +16,10 @@ returns g c =
     let opened = c.in_ok-search.ensures in
     let s = c.in_ok-search.search in
     let z = c.run.new.self in
-    let t : Terms = terms_of (whole_of s.stage.setup) s.stage.setup (g.L.ReferenceList.meaning s.list) (g.M.Measure.cost s.measure) in
-    let u : Terms = terms_of (whole_of z.stage.setup) z.stage.setup (g.L.ReferenceList.meaning z.list) (g.M.Measure.cost z.measure) in
-    let on = same_terms (λ (k : Whole). whole_of k.setup) (λ (k : Whole). k.setup) g.L.ReferenceList.meaning g.M.Measure.cost opened.1.1 opened.1.2 (refl {a = s.stage}) in
-    let kept : u ≡ t = same_terms (λ (k : Whole). whole_of k.setup) (λ (k : Whole). k.setup) g.L.ReferenceList.meaning g.M.Measure.cost c.run.ensures.same.0 c.run.ensures.same.1 c.run.ensures.same.2 in
+    let t : Terms = whole_terms s.stage.setup (g.L.ReferenceList.meaning s.list) (g.M.Measure.cost s.measure) in
+    let u : Terms = whole_terms z.stage.setup (g.L.ReferenceList.meaning z.list) (g.M.Measure.cost z.measure) in
+    let on = same_whole g.L.ReferenceList.meaning g.M.Measure.cost opened.1.1 opened.1.2 (refl {a = s.stage}) in
+    let kept : u ≡ t = same_whole g.L.ReferenceList.meaning g.M.Measure.cost c.run.ensures.same.0 c.run.ensures.same.1 c.run.ensures.same.2 in
     let asks = map (ask_of g.P.Pattern.offsets) c.args.calls.now in
     let o : Outcome = record { answers = c.match-second-4.answers; report = c.match-second-4.report } in
     let none = c.in_ok-answers.ensures.items in (

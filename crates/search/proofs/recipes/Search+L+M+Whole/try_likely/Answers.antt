@@ -1,12 +1,11 @@
 use Rattle.std.proofs.Common.{rules, ◌≡◌, ℕ, ◌-◌, ◌++◌, List, map, Ok, Err, sym, ap, ◌∙◌, subst, append_assoc}
 use Rattle.std.specs.List.{range_with_len}
-use Rattle.window.specs.Stages.{whole_of}
 use Rattle.window.specs.declared.wholes.Whole.{Whole}
 use Rattle.search.specs.Terms.{Terms}
 use Rattle.search.specs.Openings.{whole_terms}
 use Rattle.search.specs.Runs.{Ask}
 use Rattle.search.specs.Recipes.{Followed, centre_ask, proposal_ask, pattern_asks}
-use Rattle.search.proofs.Passes.{same_terms}
+use Rattle.search.proofs.Passes.{same_whole}
 use Rattle.search.proofs.Refusals.{followed_then, followed_short}
 use Rattle.search.proofs.recipes.Search+L+M+Whole.try_likely.Goals as goal
 
@@ -35,7 +34,7 @@ returns-in_err-offer_all-clause-followed g c =
     let f = c.in_err-offer_all.field-0.0 in
     let e : c.from_residual-in_err-offer_all.result ≡ Err f = search rules in
     let one = c.try_centres.ensures.same in
-    let same : u ≡ t = same_terms (λ (k : Whole). whole_of k.setup) (λ (k : Whole). k.setup) g.L.ReferenceList.meaning g.M.Measure.cost one.0 one.1 one.2 in
+    let same : u ≡ t = same_whole g.L.ReferenceList.meaning g.M.Measure.cost one.0 one.1 one.2 in
     let centres : List Ask = map (centre_ask w) (range_with_len 0 (n - 1)) in
     let offers : ℕ → List Ask = λ (m : ℕ). map (proposal_ask c.args.proposals.xs.now c.args.proposals.ys.now) (range_with_len 0 m) in
     let patterns : List Ask = pattern_asks w.range.value in
@@ -58,8 +57,8 @@ returns-clause-followed g c =
     let v : Terms = whole_terms x.stage.setup (g.L.ReferenceList.meaning x.list) (g.M.Measure.cost x.measure) in
     let one = c.try_centres.ensures.same in
     let two = c.offer_all.ensures.same in
-    let same : u ≡ t = same_terms (λ (k : Whole). whole_of k.setup) (λ (k : Whole). k.setup) g.L.ReferenceList.meaning g.M.Measure.cost one.0 one.1 one.2 in
-    let still : v ≡ t = same_terms (λ (k : Whole). whole_of k.setup) (λ (k : Whole). k.setup) g.L.ReferenceList.meaning g.M.Measure.cost (two.0 ∙ one.0) (two.1 ∙ one.1) (two.2 ∙ one.2) in
+    let same : u ≡ t = same_whole g.L.ReferenceList.meaning g.M.Measure.cost one.0 one.1 one.2 in
+    let still : v ≡ t = same_whole g.L.ReferenceList.meaning g.M.Measure.cost (two.0 ∙ one.0) (two.1 ∙ one.1) (two.2 ∙ one.2) in
     let centres : List Ask = map (centre_ask w) (range_with_len 0 (n - 1)) in
     let offers : ℕ → List Ask = λ (m : ℕ). map (proposal_ask c.args.proposals.xs.now c.args.proposals.ys.now) (range_with_len 0 m) in
     let n_is : z.stage.setup.predicted.pictures ≡ n = ap (λ (k : Whole). k.setup.predicted.pictures) one.2 in
