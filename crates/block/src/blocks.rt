@@ -12,6 +12,15 @@ pub struct Block {
     // Fixed memory, for the largest shape: the library never allocates.
     pub samples: [u8; 256],
     ghost near: { (left ≤ 1920) × (top ≤ 1920) },
-    ghost full: { length samples ≡ 256 },
-    ghost bytes: { (k : ℕ) → slice_index samples k < 256 },
+}
+
+impl Block {
+    /// The first sample. That it is read tells a proof what the type of the array has: 256 samples, each a byte.
+    pub fn first(&self) -> u8
+        ensures value { result ≡ slice_index self.now.samples 0 }
+        ensures full { length self.now.samples ≡ 256 }
+        ensures bytes { (k : ℕ) → slice_index self.now.samples k < 256 }
+    {
+        self.samples[0]
+    }
 }

@@ -39,25 +39,31 @@ fn run(rt: &HostRuntime) -> anyhow::Result<()> {
 // Costs, offsets and rounds are compared at once, each by itself: no value of theirs stands between.
 fn take(held: &mut Held, tally: &mut Tally, heap: Global, line: &str) -> anyhow::Result<()> {
     let mut words = line.split(' ');
-    match words.next().unwrap_or("") {
-        "costs" => {
-            for agrees in costs_agree(heap, words)? {
-                tally.count(agrees);
-            }
+    let kind = words.next().unwrap_or("");
+    if kind == "costs" {
+        for agrees in costs_agree(heap, words)? {
+            tally.count(agrees);
         }
+        return Ok(());
+    }
+    let name = if kind == "offsets" {
+        words.next().unwrap_or("")
+    } else {
+        ""
+    };
+    // In one place for all kinds: most of the program's time goes here, and so it stays one loop.
+    let numbers = numbers(heap, words)?;
+    let numbers = numbers.as_slice();
+    match kind {
         "offsets" => {
-            let name = words.next().unwrap_or("");
-            let record = Offsets::read(heap, numbers(heap, words)?.as_slice())?;
+            let record = Offsets::read(heap, numbers)?;
             tally.count(record.is_some_and(|record| offsets_agree(name, &record)));
         }
         "round" => {
-            let record = Offsets::read(heap, numbers(heap, words)?.as_slice())?;
+            let record = Offsets::read(heap, numbers)?;
             tally.count(record.is_some_and(|record| round_agrees(&record)));
         }
-        kind => {
-            let record = Record::read(heap, kind, numbers(heap, words)?.as_slice())?;
-            compare(held, tally, record)?;
-        }
+        kind => compare(held, tally, Record::read(heap, kind, numbers)?)?,
     }
     Ok(())
 }

@@ -80,23 +80,27 @@ total_same f h (suc n) e = rw (total_same f h n (λ k lt. e k (omega arith)), e 
 few_strips : (sh : Shape) → (shape_height sh / 4 ≤ 4) × (shape_width sh ≤ 16)
 few_strips = elim [ B16x16 ↦ (lit≤ tt, lit≤ tt) | B16x8 ↦ (lit≤ tt, lit≤ tt) | B8x16 ↦ (lit≤ tt, lit≤ tt) | B8x8 ↦ (lit≤ tt, lit≤ tt) | B8x4 ↦ (lit≤ tt, lit≤ tt) | B4x8 ↦ (lit≤ tt, lit≤ tt) | B4x4 ↦ (lit≤ tt, lit≤ tt) ]
 
+-- the samples of a block are 256 bytes, as the type of its array has it
+abbrev pub Stored : Block → Type 0
+Stored b = (length b.samples ≡ 256) × Bytes b.samples
+
 -- a strip of a block has four rows
-strip_long : (b : Block) (s : ℕ) → s < shape_height b.shape / 4 → length (block_strip b s) ≡ 4 * shape_width b.shape
-strip_long b s lt =
+strip_long : (b : Block) (s : ℕ) → Stored b → s < shape_height b.shape / 4 → length (block_strip b s) ≡ 4 * shape_width b.shape
+strip_long b s stored lt =
     let w = shape_width b.shape in
     let f = few_strips b.shape in
     let m : s * (4 * w) ≤ 3 * 64 = mul-le s (4 * w) 3 64 (omega (arith, f.0, lt)) (omega (arith, f.1)) in
-    simp (length-take, length-drop) (omega (arith, m, f.1, b.full))
+    simp (length-take, length-drop) (omega (arith, m, f.1, stored.0))
 
 -- J by SAD at a whole-sample vector
-cost_is : (s : Setup) (l : ComputedList) (r : ℕ) (v : Vector) →
+cost_is : (s : Setup) (l : ComputedList) (r : ℕ) (v : Vector) → Stored s.block →
     cost_of (parts_of s (computed l) sad (in_quarters r v)) ≡ rate_part_of s (in_quarters r v) + block_sad s.block (whole_of l.pictures r) v.x v.y
-cost_is s l r v =
+cost_is s l r v stored =
     let c = in_quarters r v in
     let n = shape_height s.block.shape / 4 in
     let many = strips_many s (computed l) sad c in
     let same : total n (cost_at (parts_of s (computed l) sad c)) ≡ block_sad s.block (whole_of l.pictures r) v.x v.y =
-    total_same (cost_at (parts_of s (computed l) sad c)) (strip_sad s.block (whole_of l.pictures r) v.x v.y) n (λ k lt. strip_costs s (computed l) sad c k lt ∙ strip_cost_at l s.block r v k (strip_long s.block k lt)) in
+    total_same (cost_at (parts_of s (computed l) sad c)) (strip_sad s.block (whole_of l.pictures r) v.x v.y) n (λ k lt. strip_costs s (computed l) sad c k lt ∙ strip_cost_at l s.block r v k (strip_long s.block k stored lt)) in
     rw (many, same) refl
 
 -- the centre of a window is near its predicted vector: the table of code lengths has both differences
@@ -110,22 +114,23 @@ tabled : (p : ℤ) → is_tabled (pos 4 *ℤ centre_of p -ℤ p) ≡ true
 tabled p = within _ (apart p (centre_of p) (floor_is (p +ℤ pos 2) (centre_of p) refl))
 
 -- the price of the centre, once there is one
-price_at : (s : Setup) (l : ComputedList) (r : ℕ) (b : Bool) (c : Candidate) → ltb r s.predicted.pictures ≡ b →
+price_at : (s : Setup) (l : ComputedList) (r : ℕ) (b : Bool) (c : Candidate) → Stored s.block → ltb r s.predicted.pictures ≡ b →
     Some c ≡ cond b (Some (in_quarters r (centre_in (predicted_in s r)))) None →
     price_of s (computed l) sad c ≡ cond b (Some (whole_price s (whole_of l.pictures r) r (centre_in (predicted_in s r)))) None
-price_at s l r true c e is =
+price_at s l r true c stored e is =
     let v = centre_in (predicted_in s r) in
     let at : c ≡ in_quarters r v = grind (arith, is) in
-    rw (at, e, tabled (predicted_in s r).x, tabled (predicted_in s r).y, cost_is s l r v) refl
-price_at s l r false c e is = absurd (grind (arith, is))
+    rw (at, e, tabled (predicted_in s r).x, tabled (predicted_in s r).y, cost_is s l r v stored) refl
+price_at s l r false c stored e is = absurd (grind (arith, is))
 
-pub price_is : (s : Setup) (l : ComputedList) (p : ReferencePictures) (r : ℕ) (c : Candidate) (answer : Option Price) →
+pub price_is : (s : Setup) (l : ComputedList) (p : ReferencePictures) (r : ℕ) (c : Candidate) (answer : Option Price) → Stored s.block →
     Some c ≡ centre_candidate s r → l.pictures ≡ p → answer ≡ price_of s (computed l) sad c → answer ≡ centre_price s (whole_of p r) r
-price_is s l p r c answer is e got = got ∙ price_at s l r (ltb r s.predicted.pictures) c refl is ∙ ap (λ (q : ReferencePictures). centre_price s (whole_of q r) r) e
+price_is s l p r c answer stored is e got = got ∙ price_at s l r (ltb r s.predicted.pictures) c stored refl is ∙ ap (λ (q : ReferencePictures). centre_price s (whole_of q r) r) e
 
 -- samples are bytes, and so are those of a strip: of the block
-block_bytes : (b : Block) (s : ℕ) → Bytes (block_strip b s)
-block_bytes b s = bytes_take (4 * shape_width b.shape) (drop (s * (4 * shape_width b.shape)) b.samples) (bytes_drop (s * (4 * shape_width b.shape)) b.samples b.bytes)
+block_bytes : (b : Block) (s : ℕ) → Stored b → Bytes (block_strip b s)
+block_bytes b s stored =
+    bytes_take (4 * shape_width b.shape) (drop (s * (4 * shape_width b.shape)) b.samples) (bytes_drop (s * (4 * shape_width b.shape)) b.samples stored.1)
 
 -- and of a picture
 grid_bytes : (g : Grid) → ((x y : ℤ) → g x y < 256) → (x y : ℤ) (w : ℕ) → Bytes (grid_strip g x y w)
@@ -138,11 +143,11 @@ grid_bytes g small x y w = bytes_map (range_with_len 0 (4 * w))
     bytes_map (j ∷ ks) (suc k) = bytes_map ks k
 
 -- the SAD of a block has four summands at most
-block_sad_most : (b : Block) (g : Grid) (x y : ℤ) → ((X Y : ℤ) → g X Y < 256) → block_sad b g x y ≤ 65280
-block_sad_most b g x y small =
+block_sad_most : (b : Block) (g : Grid) (x y : ℤ) → Stored b → ((X Y : ℤ) → g X Y < 256) → block_sad b g x y ≤ 65280
+block_sad_most b g x y stored small =
     let each = total_most (strip_sad b g x y) 16320 (shape_height b.shape / 4)
     (λ s. asked_sad_most (block_strip b s) (grid_strip g (pos b.left +ℤ x) (pos (b.top + 4 * s) +ℤ y) (shape_width b.shape))
-    (λ k. omega (arith, block_bytes b s k)) (λ k. omega (arith, grid_bytes g small (pos b.left +ℤ x) (pos (b.top + 4 * s) +ℤ y) (shape_width b.shape) k))) in
+    (λ k. omega (arith, block_bytes b s stored k)) (λ k. omega (arith, grid_bytes g small (pos b.left +ℤ x) (pos (b.top + 4 * s) +ℤ y) (shape_width b.shape) k))) in
     let few = few_strips b.shape in
     omega (arith, each, few.0)
 
@@ -153,10 +158,10 @@ whole_byte l r x y =
     (grid_byte l.size.picture.width l.size.picture.height (picture_of l r)
     (bytes_take (area l.size.picture) (drop (r * area l.size.picture) l.samples.now) (bytes_drop (r * area l.size.picture) l.samples.now l.bytes)) x y)
 
-price_within : (s : Setup) (g : Grid) (r : ℕ) (v : Vector) → ((X Y : ℤ) → g X Y < 256) → (b : Bool) → IfSome (cond b (Some (whole_price s g r v)) None) (λ price. price.cost ≤ price.rate_part + 65280)
-price_within s g r v small true = omega (arith, block_sad_most s.block g v.x v.y small)
-price_within s g r v small false = tt
+price_within : (s : Setup) (g : Grid) (r : ℕ) (v : Vector) → Stored s.block → ((X Y : ℤ) → g X Y < 256) → (b : Bool) → IfSome (cond b (Some (whole_price s g r v)) None) (λ price. price.cost ≤ price.rate_part + 65280)
+price_within s g r v stored small true = omega (arith, block_sad_most s.block g v.x v.y stored small)
+price_within s g r v stored small false = tt
 
 -- so J of the centre is its rate part and little more
-pub price_most : (s : Setup) (p : ReferencePictures) (r : ℕ) → IfSome (centre_price s (whole_of p r) r) (λ price. price.cost ≤ price.rate_part + 65280)
-price_most s p r = price_within s (whole_of p r) r (centre_in (predicted_in s r)) (whole_byte p r) (ltb r s.predicted.pictures)
+pub price_most : (s : Setup) (p : ReferencePictures) (r : ℕ) → Stored s.block → IfSome (centre_price s (whole_of p r) r) (λ price. price.cost ≤ price.rate_part + 65280)
+price_most s p r stored = price_within s (whole_of p r) r (centre_in (predicted_in s r)) stored (whole_byte p r) (ltb r s.predicted.pictures)

@@ -20,6 +20,7 @@ pub fn price_centre(
     ensures value { result ≡ centre_price setup.now (whole_of pictures.now picture) picture }
     ensures most { IfSome result (λ p. p.cost ≤ p.rate_part + 65280) }
 {
+    let _first = setup.block.first();
     let candidate = Candidate::centre(setup, picture)?;
     let list = ComputedList::new(*pictures);
     let pricing = Pricing {

@@ -22,6 +22,8 @@ pub struct Pricing<'a, L, M> {
 
 impl<L: ReferenceList, M: Measure> Pricing<'_, L, M> {
     /// The cost of strip `s` of the block against the list's samples that lie under it, once it is moved by the candidate.
+    // A call of its own: inside `judge` it would cost every trial its buffer, also one that reads no strip.
+    #[inline(never)]
     fn strip_cost(&self, candidate: Candidate, s: usize) -> u32
         requires { (unsigned_abs candidate.vector.x ≤ 4400) × ((unsigned_abs candidate.vector.y ≤ 4400) × (s < 4)) }
         ensures value { result ≡ strip_cost (M.cost self.now.measure.now) (L.meaning self.now.list.now) self.now.setup.now.block candidate s }
@@ -37,6 +39,7 @@ impl<L: ReferenceList, M: Measure> Pricing<'_, L, M> {
     }
 
     /// From the rate part on, strip by strip from the top, until the running total reaches the bound or no strip is left.
+    #[inline]
     fn judge(&self, candidate: Candidate, rate_part: u32, bound: u32) -> Trial
         requires near { (unsigned_abs candidate.vector.x ≤ 4400) × (unsigned_abs candidate.vector.y ≤ 4400) }
         requires rated { (rate_part ≡ rate_part_of self.now.setup.now candidate) × (rate_part ≤ 3921) }

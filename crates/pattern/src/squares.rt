@@ -55,8 +55,8 @@ impl Listed for Square {
 /// The eight offsets round (0, 0) at a distance of 1 or 2.
 #[derive(Clone, Copy)]
 pub enum Eight {
-    One = 1,
-    Two = 2,
+    One,
+    Two,
 }
 
 /// The eight of distance 1, which both are multiples of.
@@ -89,7 +89,11 @@ impl Eight {
     fn distance(self) -> u8
         ensures { result ≡ distance_of self }
     {
-        self as u8
+        // Told here, and not by the numbers of the variants: those are what a caller's cast gives.
+        match self {
+            Eight::One => 1,
+            Eight::Two => 2,
+        }
     }
 }
 

@@ -1,8 +1,11 @@
 //! The lines of a job's vectors.
 ghost use Rattle.std.specs.Prelude.{◌≡◌};
+ghost use Rattle.std.specs.Option.{option_map};
+ghost use Rattle.picture.specs.Pictures.{whole_of};
 ghost use Rattle.reference.specs.Computed.{computed};
+ghost use Rattle.cost.specs.Centres.{centre_price};
 ghost use Rattle.cost.specs.Strips.{price_of};
-ghost use Rattle.price.specs.Lines.{line_of};
+ghost use Rattle.price.specs.Lines.{centre_line, line_of, sad_price};
 
 use cost::{Candidate, Price, Pricing};
 use measure::{Measure, Sad, Satd, Ssd};
@@ -43,5 +46,15 @@ impl Prices<'_> {
             rate_part: sad.rate_part,
             costs: [sad.cost, ssd.cost, satd.cost],
         })
+    }
+
+    /// The line of the centre of a picture's window; nothing for a picture that has no predicted vector. Its SAD is that of
+    /// the picture's own samples.
+    pub(crate) fn centre(&self, picture: usize) -> Option<Line<3>>
+        ensures line { result ≡ centre_line self.now.setup.now (computed self.now.list.now) picture }
+        ensures own { option_map sad_price result ≡ centre_price self.now.setup.now (whole_of self.now.list.now.pictures picture) picture }
+    {
+        let _first = self.setup.block.first();
+        self.line(Candidate::centre(self.setup, picture)?)
     }
 }

@@ -91,10 +91,9 @@ fn print_prices(
     if let Some(candidate) = named {
         return print_price(rt, prices, candidate);
     }
-    let setup = prices.setup;
-    let pictures = 0..setup.predicted.pictures;
-    for centre in pictures.filter_map(|picture| Candidate::centre(setup, picture)) {
-        print_price(rt, prices, centre)?;
+    let pictures = 0..prices.setup.predicted.pictures;
+    for line in pictures.filter_map(|picture| prices.centre(picture)) {
+        println!(rt; "{line}")?;
     }
     Ok(())
 }

@@ -35,13 +35,17 @@ pub trait ReferenceList {
             width: out.len() / 4,
             height: 4,
         };
+        // Into memory of its own: the compiler has to see that a write changes nothing that the list's samples are worked out from.
+        let mut samples = [0; 64];
+        let strip = &mut samples[..out.len()];
         fill_rows(
-            out,
+            strip,
             extent,
             |column, row|
                 requires { Reaches x column × Reaches y row }
             { self.sample(picture, along(x, column), along(y, row)) },
         );
+        out.copy_from_slice(strip);
     }
 }
 
