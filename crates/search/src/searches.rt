@@ -1,5 +1,5 @@
 //! A search under way.
-ghost use Rattle.std.specs.Prelude.{◌+◌, ◌*◌, ◌^◌, ◌≤◌};
+ghost use Rattle.std.specs.Prelude.{◌≡◌, ℕ, ◌+◌, ◌*◌, ◌^◌, ◌<◌, ◌≤◌, length, slice_index};
 ghost use Rattle.search.specs.Terms.{MayTry};
 
 use crate::tallies::Tally;
@@ -18,4 +18,7 @@ pub struct Search<L, M, S: Stage> {
     ghost few: { tally.strips ≤ 4 * tally.trials },
     // A first stage, whose unit is four times as great, leaves room for the trial of a handover.
     ghost spare: { tally.trials + (S.Stage.window stage).scale ≤ 2 ^ 50 },
+    // The block's samples are in an array of 256 bytes. Its type says so, but nobody outside can read the block of a search.
+    ghost full: { length (S.Stage.setup stage).block.samples ≡ 256 },
+    ghost bytes: { (k : ℕ) → slice_index (S.Stage.setup stage).block.samples k < 256 },
 }
